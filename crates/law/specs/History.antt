@@ -1,0 +1,34 @@
+-- Any calls on one disk from its opening, refused ones among them, and the answers given so far.
+use Prim.Native.Nat.{ℕ}
+use mathlib.Core.List.{List, [], _∷_, _++_}
+use Rattle.law.specs.Types.{Table, Disk, Asked, Item, Outcome, refused, accepted}
+use Rattle.law.specs.Calls.{opened, item, claim, release}
+
+-- A request on an open disk: a claim, or the release at second now of a ticket. (An open of an open disk is refused.)
+pub data Call : Type 0 where
+  claims : Asked → Call
+  releases : (now ticket : ℕ) → Call
+
+-- A disk with the items of all answers given since its opening, each call's own and its pass's.
+pub record History : Type 0 where
+  pub disk : Disk
+  pub past : List Item
+
+-- A refusal leaves the disk as it was; only what accepted calls answered is kept.
+abbrev pub after : History → Outcome → History
+after h (refused n) = h
+after h (accepted d items) = record { disk = d; past = h .past ++ items }
+
+-- The history of a disk opened at second now with these limits of used and promised, also with such as open refuses.
+abbrev pub begun : ℕ → ℕ → ℕ → History
+begun now l0 l1 = record { disk = opened now l0 l1; past = item 3 0 ∷ [] }
+
+module _ (t : Table) where
+  abbrev pub answered : Disk → Call → Outcome
+  answered d (claims q) = claim t d q
+  answered d (releases now n) = release t d now n
+
+  -- The history after a list of calls.
+  unfoldable pub lived : History → List Call → History
+  lived h [] = h
+  lived h (k ∷ ks) = lived (after h (answered (h .disk) k)) ks

@@ -1,0 +1,11 @@
+pub mod Base
+pub mod Types
+pub mod Readings
+pub mod Entries
+pub mod Granting
+pub mod Calls
+pub mod DiskType
+pub mod History
+pub mod Lists
+pub mod Fields
+pub mod Sound
