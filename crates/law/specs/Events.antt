@@ -1,0 +1,95 @@
+-- Laws of calls: what holds after an accepted call, a pass and a history, shown from single grants and ends.
+use Prim.Native.Nat.{ℕ}
+use mathlib.Core.Bool.{Bool, true, false, cond}
+use mathlib.Core.List.{List, [], _∷_, _++_, append-assoc, append-nil}
+use mathlib.Core.Path.{_≡_, refl, sym, subst}
+use Rattle.law.specs.declared.Claim.{Claim}
+use Rattle.law.specs.Lists.{All}
+use Rattle.law.specs.Types.{Table, Core, Disk, Asked, Item, Outcome, refused, accepted}
+use Rattle.law.specs.Granting.{granted, grant, grantItem}
+use Rattle.law.specs.Calls.{Rule, unless, Passing, item, asked, at, grantedAtOnce, refusals, decided, claim, turn, passOver, letGo, releaseRefusals, release, withGrant, withWait, withEnd}
+use Rattle.law.specs.History.{Call, History, after, answered, lived}
+
+-- P holds of the new disk and the items, if the call is accepted.
+abbrev pub After : (Disk → List Item → Type 0) → Outcome → Type 0
+After P (refused n) = Unit {0}
+After P (accepted d items) = P d items
+
+-- No rule of these holds.
+abbrev pub NoneHolds : List Rule → Type 0
+NoneHolds rs = All (λ r. r .when ≡ false) rs
+
+pub unless-after : (P : Disk → List Item → Type 0) (rs : List Rule) (good : Outcome) → (NoneHolds rs → After P good) → After P (unless rs good)
+unless-after P [] good h = h tt
+unless-after P (r ∷ rs) good h = go (r .when) refl (λ e. unless-after P rs good (λ k. h (e, k)))
+  where
+    go : (b : Bool) → r .when ≡ b → (r .when ≡ false → After P (unless rs good)) → After P (cond b (refused (r .number)) (unless rs good))
+    go true e k = tt
+    go false e k = k e
+
+module _ (t : Table) where
+  -- A claim that is accepted is granted or waits.
+  pub claim-after : (P : Disk → List Item → Type 0) (d : Disk) (q : Asked) →
+      (NoneHolds (refusals t d q) → grantedAtOnce t d q ≡ true → P (withGrant t d q) (grantItem t (at d (q .now)) (asked d q) ∷ [])) →
+      (NoneHolds (refusals t d q) → grantedAtOnce t d q ≡ false → P (withWait t d q) (item 1 (d .next) ∷ [])) →
+      After P (claim t d q)
+  unfolding claim
+  claim-after P d q grants waits =
+      unless-after P (refusals t d q) (decided t d q) (λ ok. go (grantedAtOnce t d q) refl (grants ok) (waits ok))
+    where
+      go : (b : Bool) → grantedAtOnce t d q ≡ b →
+          (grantedAtOnce t d q ≡ true → P (withGrant t d q) (grantItem t (at d (q .now)) (asked d q) ∷ [])) →
+          (grantedAtOnce t d q ≡ false → P (withWait t d q) (item 1 (d .next) ∷ [])) →
+          After P
+          (cond b
+          (accepted (withGrant t d q) (grantItem t (at d (q .now)) (asked d q) ∷ []))
+          (accepted (withWait t d q) (item 1 (d .next) ∷ [])))
+      go true e g w = g e
+      go false e g w = w e
+
+  pub release-after : (P : Disk → List Item → Type 0) (d : Disk) (now n : ℕ) →
+      (NoneHolds (releaseRefusals t d now n) → P (withEnd t d now n) (item 2 n ∷ letGo t d now n .items)) →
+      After P (release t d now n)
+  unfolding release
+  release-after P d now n h =
+      unless-after P (releaseRefusals t d now n) (accepted (withEnd t d now n) (item 2 n ∷ letGo t d now n .items)) h
+
+  -- What each grant of a pass keeps, the pass keeps: P speaks of the state, of all that wait and of the answers so far.
+  module _ (P : Core → List Claim → List Item → Type 0)
+      (kept : (s : Core) (ahead : List Claim) (c : Claim) (rest : List Claim) (items : List Item) →
+      granted t s ahead c ≡ true → P s (ahead ++ (c ∷ rest)) items →
+      P (grant t s c) (ahead ++ rest) (items ++ (grantItem t s c ∷ []))) where
+    turn-keeps : (p : Passing) (c : Claim) (rest : List Claim) → P (p .core) (p .ahead ++ (c ∷ rest)) (p .items) →
+        P (turn t p c .core) (turn t p c .ahead ++ rest) (turn t p c .items)
+    unfolding turn
+    turn-keeps p c rest h = go (granted t (p .core) (p .ahead) c) refl
+      where
+        new : Bool → Passing
+        new b =
+            cond b
+            (record { core = grant t (p .core) c; ahead = p .ahead; items = p .items ++ (grantItem t (p .core) c ∷ []) })
+            (record { core = p .core; ahead = p .ahead ++ (c ∷ []); items = p .items })
+
+        go : (b : Bool) → granted t (p .core) (p .ahead) c ≡ b → P (new b .core) (new b .ahead ++ rest) (new b .items)
+        go true e = kept (p .core) (p .ahead) c rest (p .items) e h
+        go false e =
+            subst (λ (ws : List Claim). P (p .core) ws (p .items)) (sym (append-assoc (p .ahead) (c ∷ []) rest)) h
+
+    pub pass-keeps : (p : Passing) (rest : List Claim) → P (p .core) (p .ahead ++ rest) (p .items) →
+        P (passOver t p rest .core) (passOver t p rest .ahead) (passOver t p rest .items)
+    unfolding passOver
+    pass-keeps p [] h = subst (λ (ws : List Claim). P (p .core) ws (p .items)) (append-nil (p .ahead)) h
+    pass-keeps p (c ∷ rest) h = pass-keeps (turn t p c) rest (turn-keeps p c rest h)
+
+  -- What each accepted call keeps, a history keeps, whatever calls it has.
+  pub lived-keeps : (I : History → Type 0) (C : Call → Type 0) →
+      ((h : History) (k : Call) → C k → I h → After (λ d items. I (record { disk = d; past = h .past ++ items })) (answered t (h .disk) k)) →
+      (h : History) (ks : List Call) → All C ks → I h → I (lived t h ks)
+  unfolding lived
+  lived-keeps I C kept h [] ok i = i
+  lived-keeps I C kept h (k ∷ ks) ok i =
+      lived-keeps I C kept (after h (answered t (h .disk) k)) ks (ok .1) (go (answered t (h .disk) k) (kept h k (ok .0) i))
+    where
+      go : (o : Outcome) → After (λ d items. I (record { disk = d; past = h .past ++ items })) o → I (after h o)
+      go (refused n) a = i
+      go (accepted d items) a = a
