@@ -66,7 +66,7 @@ module _ (t : Table) where
   all-fit f now (c ∷ cs) formed first passes =
       (record { formed = formed .0; first = first .0; passes = passes .0 }, all-fit f now cs (formed .1) (first .1) (passes .1))
 
-  sound-fit : {d : Disk} → Sound t d → Fit t (d .core) (d .waiting) (d .next)
+  pub sound-fit : {d : Disk} → Sound t d → Fit t (d .core) (d .waiting) (d .next)
   sound-fit {d} h =
       record {
         attrs =
@@ -103,7 +103,7 @@ module _ (t : Table) where
       each : All (ClaimFits t (d .core .figures) (d .core .clock)) (claimsOn d)
       each = all-fit (d .core .figures) (d .core .clock) (claimsOn d) (h .allFormed) (h .ticketFirst) (h .allPass)
 
-  fit-sound : {d : Disk} → length (d .waiting) ≤ places → Pairs Before (d .waiting) → Fit t (d .core) (d .waiting) (d .next) → Sound t d
+  pub fit-sound : {d : Disk} → length (d .waiting) ≤ places → Pairs Before (d .waiting) → Fit t (d .core) (d .waiting) (d .next) → Sound t d
   fit-sound {d} few order h =
       record {
         bareActive = all-say (λ c. ActiveFits (kindOf t c) c) _ (λ c k. k .bare) (d .core .active) (h .actives);
@@ -139,7 +139,7 @@ module _ (t : Table) where
           (all-append Fits (d .core .active) (d .waiting) (h .claims .active) (h .claims .waiting))
 
   -- The disk at a later second.
-  fit-at : {d : Disk} (now : ℕ) → d .core .clock ≤ now → Sound t d → Fit t (at d now) (d .waiting) (d .next)
+  pub fit-at : {d : Disk} (now : ℕ) → d .core .clock ≤ now → Sound t d → Fit t (at d now) (d .waiting) (d .next)
   fit-at now l h = fit-clock t now l (sound-fit h)
 
   -- A waiting claim fewer, and whatever state keeps the rest.
@@ -226,7 +226,7 @@ module _ (t : Table) where
   -- ---- release
 
   module _ (proper : Proper t) where
-    sound-finish : (d : Disk) (now n : ℕ) → d .core .clock ≤ now → Sound t d →
+    pub sound-finish : (d : Disk) (now n : ℕ) → d .core .clock ≤ now → Sound t d →
         Sound t (diskOf (finish t (at d now) n) (without n (d .waiting)) (d .next))
     sound-finish d now n l h =
         ended-cases t (λ ws f vs. left ws → left vs) (d .core .figures) n (λ ws k. k)
@@ -236,7 +236,7 @@ module _ (t : Table) where
         left : List Claim → Type 0
         left ws = Sound t (diskOf (finish t (at d now) n) ws (d .next))
 
-    sound-pass : (s : Core) (ws : List Claim) (next : ℕ) → Sound t (diskOf s ws next) →
+    pub sound-pass : (s : Core) (ws : List Claim) (next : ℕ) → Sound t (diskOf s ws next) →
         Sound t (diskOf (pass t s ws .core) (pass t s ws .ahead) next)
     sound-pass s ws next =
         pass-keeps t (λ u vs items. Sound t (diskOf u vs next))
