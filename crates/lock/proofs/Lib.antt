@@ -1,2 +1,4 @@
 pub mod MethodLaws
 pub mod RuleLaws
+pub mod LoopLaws
+pub mod DecideLaws

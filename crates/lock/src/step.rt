@@ -1,0 +1,253 @@
+// The loops over the claims of a disk: the sum of the active adds, the lock step, barring, and the
+// decision made of them.
+
+ghost use mathlib.Core.Path.{_≡_};
+ghost use Prim.Native.Nat.{_≤_};
+ghost use lib.ListN.{take};
+ghost use Rattle.law.specs.Base.{anyOf};
+ghost use Rattle.law.specs.Types.{a1};
+ghost use Rattle.law.specs.Entries.{entryBy, kindAt, isAlways};
+ghost use Rattle.law.specs.Granting.{addsOn};
+ghost use Rattle.law.specs.DiskType.{diskTable, diskEntries};
+ghost use Rattle.claims.specs.Rows.{Row};
+ghost use Rattle.lock.specs.Methods.{figuresOf};
+ghost use Rattle.lock.specs.Loops.{coreOf, addOf, letsBy, costBetween, raiseOf, barsBy, barsOf, WeighedIs, DecidedIs};
+use crate::figures::gap_of;
+use crate::figures::limit;
+use crate::figures::preconditions;
+use crate::figures::start;
+use crate::method::METHODS;
+use crate::method::TABLE;
+use crate::method::is_add;
+use crate::method::is_reading;
+use law::Attr;
+use law::Claim;
+use law::Entry;
+use num::signed::gap;
+use num::signed::size;
+
+// What the lock step comes to: whether all of it passes, and then the total.
+pub struct Weighed {
+    pub ok: bool,
+    pub total: u64,
+}
+
+// |d| of a claim that adds, 0 of any other.
+fn add_part(x: Claim) -> u64
+    ensures { λ r. ⌜ r ≡ addOf x ⌝ }
+    ensures { λ r. ⌜ r ≤ 2147483648 ⌝ }
+{
+    if is_add(x.method) {
+        size(x.value) as u64
+    } else {
+        0
+    }
+}
+
+// The sum of |d| over the active adds.
+pub fn adds_on(active: [Claim; 8], n: usize) -> u64
+    requires { ⌜ Row active n ⌝ }
+    ensures { λ r. ⌜ r ≡ addsOn diskTable a1 (take n active) ⌝ }
+    ensures { λ r. ⌜ r ≤ 17179869184 ⌝ }
+{
+    let mut sum: u64 = 0;
+    let mut i: usize = 0;
+    while i < n {
+        let x = active[i];
+        sum = sum + add_part(x);
+        i += 1;
+    }
+    sum
+}
+
+// The entry of an active method, the row, and a requested one; A of a method that there is not.
+pub fn entry(table: [[Entry; 7]; 7], row: u32, col: u32) -> Entry
+    requires { ⌜ table ≡ diskEntries ⌝ }
+    ensures { λ r. ⌜ r ≡ entryBy (kindAt diskTable row) (kindAt diskTable col) ⌝ }
+{
+    if row < METHODS {
+        if col < METHODS {
+            let line = table[row as usize];
+            let e = line[col as usize];
+            return e;
+        }
+    }
+    Entry::A
+}
+
+// Whether one active claim lets the requested one pass, which raises a reading's amount by so much.
+fn lets(e: Entry, reading: bool, amount: u32, most: u32, raise: u64) -> bool
+    requires { ⌜ raise ≤ 8589934590 ⌝ }
+    ensures { λ r. ⌜ r ≡ letsBy e reading amount most raise ⌝ }
+{
+    match e {
+        Entry::A => true,
+        Entry::N => false,
+        Entry::D => true,
+        Entry::G => reading || amount as u64 + raise <= most as u64,
+    }
+}
+
+// What the active claim x adds to the total of the requested claim c.
+fn cost(e: Entry, reading: bool, c: Claim, x: Claim, used: Attr, promised: Attr, state: Attr) -> u64
+    ensures { λ r. ⌜ r ≡ costBetween (figuresOf used promised state) e reading c x ⌝ }
+    ensures { λ r. ⌜ r ≤ 4294967295 ⌝ }
+{
+    match e {
+        Entry::A => 0,
+        Entry::N => 0,
+        Entry::D => gap(c.value, x.value),
+        Entry::G => {
+            if reading {
+                return gap_of(x.method, x.value, used, promised, state);
+            }
+            0
+        }
+    }
+}
+
+// How much the requested claim c raises the amount of a reading: its own error and its gap.
+pub fn raise_of(c: Claim, used: Attr, promised: Attr, state: Attr) -> u64
+    ensures { λ r. ⌜ r ≡ raiseOf (figuresOf used promised state) c ⌝ }
+    ensures { λ r. ⌜ r ≤ 8589934590 ⌝ }
+{
+    c.error as u64 + gap_of(c.method, c.value, used, promised, state)
+}
+
+// The lock step of c against the active claims: the starting amount and what each adds, within the
+// limit; no entry N; each active reading within its own limit.
+pub fn weigh(
+    active: [Claim; 8],
+    n: usize,
+    c: Claim,
+    used: Attr,
+    promised: Attr,
+    state: Attr,
+) -> Weighed
+    requires { ⌜ Row active n ⌝ }
+    ensures { λ r. ⌜ WeighedIs (r .ok) (r .total) (figuresOf used promised state) (take n active) c ⌝ }
+{
+    let table = TABLE;
+    let m = c.method;
+    let reading = is_reading(m);
+    let raise = raise_of(c, used, promised, state);
+    let most = limit(m, c.error, used, promised, state) as u64;
+    let mut total = start(m, c.error, used, promised, state);
+    let mut i: usize = 0;
+    while i < n {
+        let x = active[i];
+        let e = entry(table, x.method, m);
+        if lets(e, reading, x.amount, x.error, raise) {
+            total = total + cost(e, reading, c, x, used, promised, state);
+            i += 1;
+        } else {
+            return Weighed {
+                ok: false,
+                total: 0,
+            };
+        }
+    }
+    Weighed {
+        ok: total <= most,
+        total: total,
+    }
+}
+
+fn is_always(e: Entry) -> bool
+    ensures { λ r. ⌜ r ≡ isAlways e ⌝ }
+{
+    match e {
+        Entry::A => true,
+        Entry::N => false,
+        Entry::D => false,
+        Entry::G => false,
+    }
+}
+
+// Whether the waiting claim w bars one of a priority, by their entry.
+fn bars(
+    w: Claim,
+    e: Entry,
+    priority: u32,
+    now: u32,
+    adds: u64,
+    used: Attr,
+    promised: Attr,
+    state: Attr,
+) -> bool
+    requires { ⌜ adds ≤ 34359738368 ⌝ }
+    ensures { λ r. ⌜ r ≡ barsBy (figuresOf used promised state) now adds priority e w ⌝ }
+{
+    if w.priority < priority {
+        return false;
+    }
+    if is_always(e) {
+        return false;
+    }
+    preconditions(w, now, adds, used, promised, state)
+}
+
+// Whether one of the first n waiting claims bars c; adds is the sum of |d| over the active adds.
+pub fn barred(
+    waiting: [Claim; 8],
+    n: usize,
+    c: Claim,
+    now: u32,
+    adds: u64,
+    used: Attr,
+    promised: Attr,
+    state: Attr,
+) -> bool
+    requires { ⌜ n ≤ 8 ⌝ }
+    requires { ⌜ adds ≤ 34359738368 ⌝ }
+    ensures { λ r. ⌜ r ≡ anyOf (barsOf (figuresOf used promised state) now adds c) (take n waiting) ⌝ }
+{
+    let table = TABLE;
+    let m = c.method;
+    let priority = c.priority;
+    let mut i: usize = 0;
+    while i < n {
+        let w = waiting[i];
+        let e = entry(table, w.method, m);
+        if bars(w, e, priority, now, adds, used, promised, state) {
+            return true;
+        }
+        i += 1;
+    }
+    false
+}
+
+// The decision on c behind the first waiting ones: preconditions, barring, lock step, place.
+pub fn decide(
+    active: [Claim; 8],
+    n: usize,
+    waiting: [Claim; 8],
+    ahead: usize,
+    c: Claim,
+    now: u32,
+    used: Attr,
+    promised: Attr,
+    state: Attr,
+) -> Weighed
+    requires { ⌜ Row active n ⌝ }
+    requires { ⌜ ahead ≤ 8 ⌝ }
+    ensures { λ r. ⌜ DecidedIs (r .ok) (r .total) (coreOf (figuresOf used promised state) now (take n active)) (take ahead waiting) c ⌝ }
+{
+    let adds = adds_on(active, n);
+    if preconditions(c, now, adds, used, promised, state) {
+        if barred(waiting, ahead, c, now, adds, used, promised, state) {
+            return Weighed {
+                ok: false,
+                total: 0,
+            };
+        }
+        let w = weigh(active, n, c, used, promised, state);
+        if n < 8 {
+            return w;
+        }
+    }
+    Weighed {
+        ok: false,
+        total: 0,
+    }
+}
