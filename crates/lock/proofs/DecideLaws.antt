@@ -44,7 +44,11 @@ module _ (f : Figures) (now : ℕ) (ws ahead : List Claim) (c : Claim) where
       ≡ granted diskTable (coreOf f now ws) ahead c
   unfolding granted
   granted-is =
-      rw (pre-is (coreOf f now ws) c, same-lock, any-same (barsOf f now (addsOn diskTable a1 ws) c) (bars diskTable (coreOf f now ws) c) bars-is ahead)
+      rw (
+        pre-is (coreOf f now ws) c,
+        same-lock,
+        any-same (barsOf f now (addsOn diskTable a1 ws) c) (bars diskTable (coreOf f now ws) c) bars-is ahead,
+      )
 
   module _ {sum : ℕ} (e : sum ≡ addsOn diskTable a1 ws) where
     -- A precondition fails.
@@ -52,7 +56,8 @@ module _ (f : Figures) (now : ℕ) (ws ahead : List Claim) (c : Claim) where
     not-fit h = rw (← granted-is, ← e, h)
 
     -- One ahead bars it.
-    pub not-free : preOf f now sum c ≡ true → anyOf (barsOf f now sum c) ahead ≡ true → false ≡ granted diskTable (coreOf f now ws) ahead c
+    pub not-free : preOf f now sum c ≡ true → anyOf (barsOf f now sum c) ahead ≡ true →
+        false ≡ granted diskTable (coreOf f now ws) ahead c
     not-free h g = rw (← granted-is, ← e, h, g)
 
     module _ (h : preOf f now sum c ≡ true) (g : anyOf (barsOf f now sum c) ahead ≡ false) where

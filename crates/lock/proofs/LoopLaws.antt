@@ -5,8 +5,9 @@ use mathlib.Core.List.{List, [], _∷_}
 use mathlib.Core.Path.{_≡_, refl, sym, ap, _∙_}
 use native.Mathlib.Numerals.{add-one}
 use native.Mathlib.Omega.{arith}
+use borrow.Author.Tests.{lt-ltb, le-ltb}
 use lib.Dec.{leb}
-use lib.ListN.{length, take, drop, getD, drop-of-length-le, List·getD-eq-default}
+use lib.ListN.{length, take, drop, getD, drop-of-length-le}
 use lib.Seq.{length-take-le, drop-cons, getD-take}
 use Rattle.num.specs.Bits.{hasBit}
 use Rattle.num.specs.Metric.{dist}
@@ -18,15 +19,17 @@ use Rattle.law.specs.Types.{a0, a1, a2, Kind, sets, adds, reads, Figures}
 use Rattle.law.specs.Entries.{kindAt, kindOf, entryBy, entry, isNever}
 use Rattle.law.specs.Granting.{addsTo, limitBy, startBy, gapBy, costBy, raisesBy, cost, stays, total, lockStep}
 use Rattle.law.specs.DiskType.{diskTable}
+use Rattle.law.specs.TableLaws.{entryAt, disk-entry}
 use Rattle.claims.specs.Rows.{noClaim}
 use Rattle.lock.specs.Methods.{isReading, isAdd}
-use Rattle.lock.specs.Loops.{coreOf, letsBy, costOn, letsOf, costOf, barsBy, barsAt}
+use Rattle.lock.specs.Loops.{coreOf, indexOf, letsBy, costOn, letsOf, costOf, barsBy, barsAt}
+use Rattle.lock.proofs.MethodLaws.{method-past}
 
 -- ---- methods
 
 -- A fact of the kind of each of the disk's methods, and of the kind of one that there is not, is a fact of every method's kind.
-pub each-kind : (P : Kind → Type 0) → P (sets a0) → P (adds a1) → P (sets a1) → P (sets a2) → P (reads 1) → P (reads 3) → P (reads 4) →
-    P (reads 0) → (m : ℕ) → P (kindAt diskTable m)
+pub each-kind : (P : Kind → Type 0) → P (sets a0) → P (adds a1) → P (sets a1) → P (sets a2) →
+    P (reads 1) → P (reads 3) → P (reads 4) → P (reads 0) → (m : ℕ) → P (kindAt diskTable m)
 unfolding diskTable
 each-kind P p0 p1 p2 p3 p4 p5 p6 p7 zero = p0
 each-kind P p0 p1 p2 p3 p4 p5 p6 p7 (suc zero) = p1
@@ -40,11 +43,6 @@ each-kind P p0 p1 p2 p3 p4 p5 p6 p7 (suc (suc (suc (suc (suc (suc (suc m))))))) 
 -- Whatever adds adds to attribute 1.
 pub add-is : (m : ℕ) → isAdd (kindAt diskTable m) ≡ addsTo a1 (kindAt diskTable m)
 add-is m = each-kind (λ k. isAdd k ≡ addsTo a1 k) refl refl refl refl refl refl refl refl m
-
--- A method that there is not reads nothing, and goes with every other.
-pub kind-past : (m : ℕ) → 7 ≤ m → kindAt diskTable m ≡ reads 0
-unfolding diskTable
-kind-past m h = List·getD-eq-default (diskTable .kinds) (reads 0) h
 
 row-past : (k : Kind) → A ≡ entryBy (reads 0) k
 unfolding hasBit
@@ -66,11 +64,27 @@ col-past (adds a1) = refl
 col-past (adds a2) = refl
 col-past (reads m) = refl
 
+-- The index of a method that there is.
+pub index-is : (m : ℕ) → m < 7 → indexOf m ≡ m
+unfolding indexOf
+index-is m h = rw (lt-ltb m 7 h)
+
+pub index-past : (m : ℕ) → 7 ≤ m → indexOf m ≡ 0
+unfolding indexOf
+index-past m h = rw (le-ltb m 7 h)
+
+-- What stands in the table at the indices of two methods.
+pub found-at : (m n r s : ℕ) → r ≡ indexOf m → s ≡ indexOf n → entryAt r s ≡ entryAt (indexOf m) (indexOf n)
+found-at m n r s h g = rw (h, g)
+
+pub entry-of : (m n : ℕ) → m < 7 → n < 7 → entryAt (indexOf m) (indexOf n) ≡ entryBy (kindAt diskTable m) (kindAt diskTable n)
+entry-of m n h g = rw (index-is m h, index-is n g) (disk-entry m n h g)
+
 pub entry-row-past : (m n : ℕ) → 7 ≤ m → A ≡ entryBy (kindAt diskTable m) (kindAt diskTable n)
-entry-row-past m n h = row-past (kindAt diskTable n) ∙ ap (λ k. entryBy k (kindAt diskTable n)) (sym (kind-past m h))
+entry-row-past m n h = row-past (kindAt diskTable n) ∙ ap (λ k. entryBy k (kindAt diskTable n)) (sym (method-past m h))
 
 pub entry-col-past : (m n : ℕ) → 7 ≤ n → A ≡ entryBy (kindAt diskTable m) (kindAt diskTable n)
-entry-col-past m n h = col-past (kindAt diskTable m) ∙ ap (entryBy (kindAt diskTable m)) (sym (kind-past n h))
+entry-col-past m n h = col-past (kindAt diskTable m) ∙ ap (entryBy (kindAt diskTable m)) (sym (method-past n h))
 
 -- ---- tests and sums of two functions that agree
 
@@ -84,7 +98,8 @@ module _ {X : Type 0} where
   any-same p q e (x ∷ xs) = rw (e x, any-same p q e xs)
 
   -- A joint test of every element is the two tests of every element.
-  every-both : (p q r : X → Bool) → ((x : X) → r x ≡ (p x && q x)) → (xs : List X) → everyOf r xs ≡ (everyOf p xs && everyOf q xs)
+  every-both : (p q r : X → Bool) → ((x : X) → r x ≡ (p x && q x)) → (xs : List X) →
+      everyOf r xs ≡ (everyOf p xs && everyOf q xs)
   every-both p q r e [] = refl
   every-both p q r e (x ∷ xs) = rw (e x, every-both p q r e xs) (four (p x) (q x) (everyOf p xs) (everyOf q xs))
     where
@@ -138,29 +153,33 @@ module _ (f : Figures) (c : Claim) (ws : List Claim) where
   unfolding total
   total-is = rw (sum-same (costOf f c) (cost diskTable (coreOf f 0 ws) c) cost-is ws)
 
+  abbrev within-limit : Bool
+  within-limit = leb (total diskTable (coreOf f 0 ws) c) (limitBy f (kindOf diskTable c) (c .error))
+
   lock-is : ((everyOf (λ w. not (isNever (entry diskTable w c))) ws && everyOf (stays diskTable (coreOf f 0 ws) c) ws)
-      && leb (total diskTable (coreOf f 0 ws) c) (limitBy f (kindOf diskTable c) (c .error)))
+      && within-limit)
       ≡ lockStep diskTable (coreOf f 0 ws) c
   unfolding lockStep
   lock-is =
-      in-turn (everyOf (λ w. not (isNever (entry diskTable w c))) ws)
-      (leb (total diskTable (coreOf f 0 ws) c) (limitBy f (kindOf diskTable c) (c .error)))
+      in-turn (everyOf (λ w. not (isNever (entry diskTable w c))) ws) within-limit
       (everyOf (stays diskTable (coreOf f 0 ws) c) ws)
 
-  every-is : everyOf (letsOf f c) ws ≡ (everyOf (λ w. not (isNever (entry diskTable w c))) ws && everyOf (stays diskTable (coreOf f 0 ws) c) ws)
+  every-is : everyOf (letsOf f c) ws
+      ≡ (everyOf (λ w. not (isNever (entry diskTable w c))) ws && everyOf (stays diskTable (coreOf f 0 ws) c) ws)
   every-is = every-both (λ w. not (isNever (entry diskTable w c))) (stays diskTable (coreOf f 0 ws) c) (letsOf f c) lets-is ws
 
   -- One active claim stops it.
   pub lock-not : false ≡ everyOf (letsOf f c) ws → false ≡ lockStep diskTable (coreOf f 0 ws) c
-  lock-not h = ap (λ (b : Bool). b && leb (total diskTable (coreOf f 0 ws) c) (limitBy f (kindOf diskTable c) (c .error))) (h ∙ every-is) ∙ lock-is
+  lock-not h = ap (λ (b : Bool). b && within-limit) (h ∙ every-is) ∙ lock-is
 
   -- None does: then the total decides.
   pub lock-all : true ≡ everyOf (letsOf f c) ws →
       leb (total diskTable (coreOf f 0 ws) c) (limitBy f (kindOf diskTable c) (c .error)) ≡ lockStep diskTable (coreOf f 0 ws) c
-  lock-all h = ap (λ (b : Bool). b && leb (total diskTable (coreOf f 0 ws) c) (limitBy f (kindOf diskTable c) (c .error))) (h ∙ every-is) ∙ lock-is
+  lock-all h = ap (λ (b : Bool). b && within-limit) (h ∙ every-is) ∙ lock-is
 
 -- What the leaves say of one active claim is the law's test and cost of it.
-module _ (f : Figures) (c w : Claim) {e : Entry} {reading : Bool} (h : e ≡ entry diskTable w c) (r : reading ≡ isReading (kindOf diskTable c)) where
+module _ (f : Figures) (c w : Claim) {e : Entry} {reading : Bool} (h : e ≡ entry diskTable w c)
+    (r : reading ≡ isReading (kindOf diskTable c)) where
   pub lets-at : {raise : ℕ} {b : Bool} → raise ≡ c .error + gapBy f (kindOf diskTable c) (c .value) →
       b ≡ letsBy e reading (w .amount) (w .error) raise → b ≡ letsOf f c w
   unfolding letsOf
@@ -194,7 +213,8 @@ last-test true = refl
 last-test false = refl
 
 -- What the leaf says of one waiting claim.
-pub bars-at : (f : Figures) (now sum priority m : ℕ) (w : Claim) {e : Entry} {b : Bool} → e ≡ entryBy (kindAt diskTable (w .method)) (kindAt diskTable m) →
+pub bars-at : (f : Figures) (now sum priority m : ℕ) (w : Claim) {e : Entry} {b : Bool} →
+    e ≡ entryBy (kindAt diskTable (w .method)) (kindAt diskTable m) →
     b ≡ barsBy f now sum priority e w → b ≡ barsAt f now sum priority m w
 unfolding barsAt
 bars-at f now sum priority m w h b = rw h at b

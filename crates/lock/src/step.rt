@@ -2,16 +2,17 @@
 // decision made of them.
 
 ghost use mathlib.Core.Path.{_≡_};
-ghost use Prim.Native.Nat.{_≤_};
+ghost use Prim.Native.Nat.{_≤_, _<_};
 ghost use lib.ListN.{take};
 ghost use Rattle.law.specs.Base.{anyOf};
 ghost use Rattle.law.specs.Types.{a1};
 ghost use Rattle.law.specs.Entries.{entryBy, kindAt, isAlways};
 ghost use Rattle.law.specs.Granting.{addsOn};
-ghost use Rattle.law.specs.DiskType.{diskTable, diskEntries};
+ghost use Rattle.law.specs.DiskType.{diskTable};
+ghost use Rattle.law.specs.TableLaws.{entryAt};
 ghost use Rattle.claims.specs.Rows.{Row};
 ghost use Rattle.lock.specs.Methods.{figuresOf};
-ghost use Rattle.lock.specs.Loops.{coreOf, addOf, letsBy, costBetween, raiseOf, barsBy, barsOf, WeighedIs, DecidedIs};
+ghost use Rattle.lock.specs.Loops.{coreOf, addOf, indexOf, letsBy, costBetween, raiseOf, barsBy, barsOf, WeighedIs, DecidedIs};
 use crate::figures::gap_of;
 use crate::figures::limit;
 use crate::figures::preconditions;
@@ -60,16 +61,23 @@ pub fn adds_on(active: [Claim; 8], n: usize) -> u64
     sum
 }
 
-// The entry of an active method, the row, and a requested one; A of a method that there is not.
-pub fn entry(table: [[Entry; 7]; 7], row: u32, col: u32) -> Entry
-    requires { ⌜ table ≡ diskEntries ⌝ }
+// The index of a method in the table; the first for a method that there is not.
+pub fn index_of(m: u32) -> usize
+    ensures { λ r. ⌜ r ≡ indexOf m ⌝ }
+    ensures { λ r. ⌜ r < 7 ⌝ }
+{
+    if m < METHODS { m as usize } else { 0 }
+}
+
+// The entry of an active method, the row, and a requested one: what the table has at their indices;
+// A of a method that there is not.
+pub fn entry(row: u32, col: u32, found: Entry) -> Entry
+    requires { ⌜ found ≡ entryAt (indexOf row) (indexOf col) ⌝ }
     ensures { λ r. ⌜ r ≡ entryBy (kindAt diskTable row) (kindAt diskTable col) ⌝ }
 {
     if row < METHODS {
         if col < METHODS {
-            let line = table[row as usize];
-            let e = line[col as usize];
-            return e;
+            return found;
         }
     }
     Entry::A
@@ -129,6 +137,7 @@ pub fn weigh(
 {
     let table = TABLE;
     let m = c.method;
+    let col = index_of(m);
     let reading = is_reading(m);
     let raise = raise_of(c, used, promised, state);
     let most = limit(m, c.error, used, promised, state) as u64;
@@ -136,7 +145,10 @@ pub fn weigh(
     let mut i: usize = 0;
     while i < n {
         let x = active[i];
-        let e = entry(table, x.method, m);
+        let row = index_of(x.method);
+        let line = table[row];
+        let found = line[col];
+        let e = entry(x.method, m, found);
         if lets(e, reading, x.amount, x.error, raise) {
             total = total + cost(e, reading, c, x, used, promised, state);
             i += 1;
@@ -204,11 +216,15 @@ pub fn barred(
 {
     let table = TABLE;
     let m = c.method;
+    let col = index_of(m);
     let priority = c.priority;
     let mut i: usize = 0;
     while i < n {
         let w = waiting[i];
-        let e = entry(table, w.method, m);
+        let row = index_of(w.method);
+        let line = table[row];
+        let found = line[col];
+        let e = entry(w.method, m, found);
         if bars(w, e, priority, now, adds, used, promised, state) {
             return true;
         }

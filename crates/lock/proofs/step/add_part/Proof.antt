@@ -21,7 +21,8 @@ unfolding addOf
 returns c =
     let k = c .before .before in
     let x = k .before .before .args .x in
-    (rw (c .size .ensures .0, toZ-ofZ (record { sfits = c .before .struct-told .given .1 .1 .1 .1 .1 .0 .1 }), ← add-is (x .method), ← k .before .is-add .ensures, k .if1 .taken), c .size .ensures .1)
+    let e = rw (toZ-ofZ (record { sfits = c .before .struct-told .given .1 .1 .1 .1 .1 .0 .1 })) at (c .size .ensures .0) in
+    (rw (← add-is (x .method), ← k .before .is-add .ensures, k .if1 .taken) e, c .size .ensures .1)
 
 returns-2 : tie.Need-returns-2
 unfolding addOf

@@ -31,7 +31,8 @@ unfolding barsBy
 returns-3 c =
     let k = c .before .before in
     let a = k .before .before .before .args in
-    rw (le-leb (a .priority) (a .w .priority) (k .before .if1 .left), ← k .is-always .ensures, c .before .if2 .left) (c .preconditions .ensures ∙ last-test _)
+    rw (le-leb (a .priority) (a .w .priority) (k .before .if1 .left), ← k .is-always .ensures, c .before .if2 .left)
+    (c .preconditions .ensures ∙ last-test _)
 
 pub bars-spec : {M : Type 1} → statement M
 bars-spec = tie.close (tie.spec returns is-always-requires returns-2 preconditions-requires returns-3)

@@ -39,8 +39,8 @@ returns-3 c = (rw (c .enum-told2 .given .1), omega arith)
 returns-4 : tie.Need-returns-4
 returns-4 c =
     let k = c .before .before in
-    let e =
-    rw (toZ-ofZ (record { sfits = k .struct-told .given .1 .1 .1 .1 .1 .0 .1 }), toZ-ofZ (record { sfits = c .before .struct-told2 .given .1 .1 .1 .1 .1 .0 .1 })) at (c .gap .ensures .0) in
+    let v = rw (toZ-ofZ (record { sfits = k .struct-told .given .1 .1 .1 .1 .1 .0 .1 })) at (c .gap .ensures .0) in
+    let e = rw (toZ-ofZ (record { sfits = c .before .struct-told2 .given .1 .1 .1 .1 .1 .0 .1 })) at v in
     (rw (k .before .enum-told3 .given .1) e, c .gap .ensures .1)
 
 returns-5 : tie.Need-returns-5

@@ -27,7 +27,9 @@ returns c =
     let ws = take (a .n) (a .active) in
     let ahead = take (a .ahead) (a .waiting) in
     refusal f (a .now) ws ahead (a .c)
-    (not-free f (a .now) ws ahead (a .c) (p .before .adds-on .ensures .0) (sym (p .preconditions .ensures) ∙ c .before .before .if1 .taken) (sym (c .before .barred .ensures) ∙ c .if2 .taken))
+    (not-free f (a .now) ws ahead (a .c)
+    (p .before .adds-on .ensures .0) (sym (p .preconditions .ensures) ∙ c .before .before .if1 .taken)
+    (sym (c .before .barred .ensures) ∙ c .if2 .taken))
 
 weigh-requires : tie.Need-weigh-requires
 weigh-requires c κs = search needs
@@ -45,7 +47,9 @@ returns-2 c =
     record {
       says =
           w .weigh .ensures .says
-          ∙ all-else f (a .now) ws ahead (a .c) (p .before .adds-on .ensures .0) (sym (p .preconditions .ensures) ∙ b .before .if1 .taken) (sym (b .barred .ensures) ∙ w .before .if2 .left)
+          ∙ all-else f (a .now) ws ahead (a .c)
+          (p .before .adds-on .ensures .0) (sym (p .preconditions .ensures) ∙ b .before .if1 .taken)
+          (sym (b .barred .ensures) ∙ w .before .if2 .left)
           (omega (arith, row-length (z .pre .0), c .if3 .taken));
       counts = λ q. w .weigh .ensures .counts q ∙ same-total f (a .now) ws ahead (a .c);
     }
@@ -61,7 +65,9 @@ returns-3 c =
     let ws = take (a .n) (a .active) in
     let ahead = take (a .ahead) (a .waiting) in
     refusal f (a .now) ws ahead (a .c)
-    (not-placed f (a .now) ws ahead (a .c) (p .before .adds-on .ensures .0) (sym (p .preconditions .ensures) ∙ b .before .if1 .taken) (sym (b .barred .ensures) ∙ w .before .if2 .left)
+    (not-placed f (a .now) ws ahead (a .c)
+    (p .before .adds-on .ensures .0) (sym (p .preconditions .ensures) ∙ b .before .if1 .taken)
+    (sym (b .barred .ensures) ∙ w .before .if2 .left)
     (omega (arith, row-length (z .pre .0), c .if3 .left)))
 
 returns-4 : tie.Need-returns-4

@@ -13,12 +13,12 @@ use Rattle.claims.specs.Rows.{noClaim}
 use Rattle.claims.specs.RowLaws.{sum-turn, sum-end, every-on, every-not, every-end}
 use Rattle.lock.specs.Methods.{figuresOf}
 use Rattle.lock.specs.Loops.{coreOf, letsOf, costOf}
-use Rattle.lock.proofs.LoopLaws.{lets-at, cost-at, lock-not, lock-all, total-is}
+use Rattle.lock.proofs.LoopLaws.{found-at, lets-at, cost-at, lock-not, lock-all, total-is}
 use Rattle.lock.proofs.step.weigh.Statement.{statement}
 use Rattle.lock.proofs.step.weigh.Tie as tie
 
 abbrev Inv-loop : tie.InvT-loop
-Inv-loop n c used promised state active table m reading raise most total₀ i₀ total i =
+Inv-loop n c used promised state active table m col reading raise most total₀ i₀ total i =
     (i ≤ n)
     × (total ≤ 12884901885 + i * 4294967295)
     × (everyOf (letsOf (figuresOf used promised state) c) (drop i (take n active))
@@ -27,7 +27,10 @@ Inv-loop n c used promised state active table m reading raise most total₀ i₀
     ≡ total₀ + sumOf (costOf (figuresOf used promised state) c) (take n active))
 
 abbrev μ-loop : tie.MeasureT-loop
-μ-loop n c used promised state active table m reading raise most total₀ i₀ total i = n - i
+μ-loop n c used promised state active table m col reading raise most total₀ i₀ total i = n - i
+
+index-of-requires : tie.Need-index-of-requires Inv-loop μ-loop
+index-of-requires c κs = tt
 
 is-reading-requires : tie.Need-is-reading-requires Inv-loop μ-loop
 is-reading-requires c κs = tt
@@ -53,12 +56,28 @@ mul-x c = search needs
 array-copy-out-x : tie.Need-array-copy-out-x Inv-loop μ-loop
 array-copy-out-x c = search needs
 
+index-of-requires-2 : tie.Need-index-of-requires-2 Inv-loop μ-loop
+index-of-requires-2 c κs = tt
+
+mul-line : tie.Need-mul-line Inv-loop μ-loop
+mul-line c = omega (arith, c .index-of2 .ensures .1)
+
+array-copy-out-line : tie.Need-array-copy-out-line Inv-loop μ-loop
+array-copy-out-line c = c .index-of2 .ensures .1
+
+array-copy-out-found : tie.Need-array-copy-out-found Inv-loop μ-loop
+array-copy-out-found c = c .before .before .before .before .before .before .before .before .before .index-of .ensures .1
+
 entry-requires : tie.Need-entry-requires Inv-loop μ-loop
 unfolding diskEntries
-entry-requires c κs = refl
+entry-requires c κs =
+    let k = c .before .before in
+    let z = k .before .before .before .before .before .before .before .before in
+    found-at (getD (z .before .args .t1) (k .before .before .before .loop .i) noClaim .method) (z .before .args .c .method)
+    (k .index-of2 .result) (z .index-of .result) (k .index-of2 .ensures .0) (z .index-of .ensures .0)
 
 lets-requires : tie.Need-lets-requires Inv-loop μ-loop
-lets-requires c κs = c .before .before .before .before .before .before .raise-of .ensures .1
+lets-requires c κs = c .before .before .before .before .before .before .before .before .before .raise-of .ensures .1
 
 cost-requires : tie.Need-cost-requires Inv-loop μ-loop
 cost-requires c κs = tt
@@ -76,10 +95,10 @@ loop-again : tie.Need-loop-again Inv-loop μ-loop
 loop-again c =
     let l = c .before .before in
     let e = l .before in
-    let t = e .before .before in
+    let t = e .before .before .before .before .before in
     let s = t .before in
     let ra = s .before .before .before in
-    let z = ra .before .before in
+    let z = ra .before .before .before in
     let a = z .args in
     let f = figuresOf (a .used) (a .promised) (a .state) in
     let x = getD (a .t1) (s .loop .i) noClaim in
@@ -95,10 +114,10 @@ returns : tie.Need-returns Inv-loop μ-loop
 returns c =
     let l = c .before in
     let e = l .before in
-    let t = e .before .before in
+    let t = e .before .before .before .before .before in
     let s = t .before in
     let ra = s .before .before .before in
-    let z = ra .before .before in
+    let z = ra .before .before .before in
     let a = z .args in
     let f = figuresOf (a .used) (a .promised) (a .state) in
     let x = getD (a .t1) (s .loop .i) noClaim in
@@ -114,7 +133,7 @@ returns-2 : tie.Need-returns-2 Inv-loop μ-loop
 returns-2 c =
     let s = c .before in
     let st = s .before in
-    let z = st .before .before .before .before in
+    let z = st .before .before .before .before .before in
     let a = z .args in
     let f = figuresOf (a .used) (a .promised) (a .state) in
     let ws = take (a .n) (a .t1) in
@@ -135,6 +154,7 @@ weigh-spec =
     (tie.spec
     Inv-loop
     μ-loop
+    index-of-requires
     is-reading-requires
     raise-of-requires
     limit-requires
@@ -143,6 +163,10 @@ weigh-spec =
     loop-holds
     mul-x
     array-copy-out-x
+    index-of-requires-2
+    mul-line
+    array-copy-out-line
+    array-copy-out-found
     entry-requires
     lets-requires
     cost-requires
