@@ -1,0 +1,3 @@
+pub mod ChangeLaws
+pub mod PassLaws
+pub mod CallLaws

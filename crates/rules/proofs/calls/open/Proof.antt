@@ -1,0 +1,58 @@
+-- Both limits in range open a disk without claims; else the disk of zeros is handed back.
+use mathlib.Core.Path.{refl}
+use borrow.Author.Needs.{needs}
+use Rattle.law.specs.Calls.{opened}
+use Rattle.rules.proofs.CallLaws.{items-none, open-over-0, open-over-1, open-fits, empty-good}
+use Rattle.rules.proofs.calls.open.Statement.{statement}
+use Rattle.rules.proofs.calls.open.Tie as tie
+
+empty-requires : tie.Need-empty-requires
+empty-requires c κs = search needs
+
+refused-requires : tie.Need-refused-requires
+refused-requires c κs = search needs
+
+returns : tie.Need-returns
+returns c =
+    let a = c .before .before .before .args in
+    rw (open-over-0 (a .now) (a .l0) (a .l1) (c .before .before .if1 .taken)) (rw (c .before .empty .ensures) at (c .refused .ensures))
+
+empty-requires-2 : tie.Need-empty-requires-2
+empty-requires-2 c κs = search needs
+
+refused-requires-2 : tie.Need-refused-requires-2
+refused-requires-2 c κs = search needs
+
+returns-2 : tie.Need-returns-2
+returns-2 c =
+    let o = c .before .before in
+    let a = o .before .before .args in
+    rw (open-over-1 (a .now) (a .l0) (a .l1) (o .before .if1 .left) (o .if2 .taken)) (rw (c .before .empty2 .ensures) at (c .refused2 .ensures))
+
+no-item-requires : tie.Need-no-item-requires
+no-item-requires c κs = search needs
+
+empty-requires-3 : tie.Need-empty-requires-3
+empty-requires-3 c κs = search needs
+
+returns-3 : tie.Need-returns-3
+unfolding opened
+returns-3 c =
+    let o = c .before .before in
+    let a = o .before .before .args in
+    rw (open-fits (a .now) (a .l0) (a .l1) (o .before .if1 .left) (o .if2 .left), c .empty3 .ensures, c .before .no-item .ensures)
+    (refl, record { good = empty-good (a .now) (a .l0) (a .l1) 1; is = refl }, refl, items-none)
+
+pub open-spec : {M : Type 1} → statement M
+open-spec =
+    tie.close
+    (tie.spec
+    empty-requires
+    refused-requires
+    returns
+    empty-requires-2
+    refused-requires-2
+    returns-2
+    no-item-requires
+    empty-requires-3
+    returns-3)

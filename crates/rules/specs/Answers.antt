@@ -1,0 +1,166 @@
+-- What the calls on a disk by value answer, over the law's outcomes.
+use Prim.Native.Nat.{ℕ, _+_, _≤_}
+use mathlib.Core.Bool.{Bool, cond}
+use mathlib.Core.List.{List, [], _∷_, _++_, map}
+use mathlib.Core.Path.{_≡_}
+use lib.Dec.{leb, ltb}
+use lib.IntN.{ℤ, pos}
+use lib.ListN.{length, take, getD, replicate}
+use Rattle.num.specs.Metric.{size}
+use Rattle.claims.specs.Rows.{noClaim, removeAt}
+use Rattle.law.specs.declared.Claim.{Claim}
+use Rattle.law.specs.Types.{mostValue, mostError, lastTicket, Kind, sets, adds, reads, Figures, Core, Asked as LawAsked, Item as LawItem, Outcome, refused, accepted, Disk as LawDisk}
+use Rattle.law.specs.Entries.{kindOf}
+use Rattle.law.specs.Granting.{total, grant, grantItem}
+use Rattle.law.specs.Calls.{Rule, valueFits, landBy, queue, Passing, item, newAttr, setClock, claimRefusals, pass}
+use Rattle.law.specs.GrantLaws.{MayGrant}
+use Rattle.law.specs.DiskType.{diskTable}
+use Rattle.rules.specs.declared.disk.Disk.{Disk}
+use Rattle.rules.specs.declared.disk.Item.{Item}
+use Rattle.rules.specs.declared.disk.Asked.{Asked}
+use Rattle.lock.specs.Loops.{coreOf}
+use Rattle.rules.specs.Disks.{figuresIn, Good, DiskIs, TellFits}
+
+-- An item that nothing fills.
+abbrev pub noItem : Item
+noItem = record { code = 0; ticket = 0; told = pos 0; amount = 0 }
+
+-- What an answer shows of an item of the law.
+abbrev pub shown : LawItem → Item
+shown i = record { code = i .code; ticket = i .ticket; told = i .told; amount = i .amount }
+
+-- The request of the law.
+abbrev pub askedOf : Asked → LawAsked
+askedOf q =
+    record {
+      now = q .now;
+      method = q .method;
+      priority = q .priority;
+      flag = q .flag;
+      measured = q .measured;
+      value = q .value;
+      error = q .error;
+    }
+
+-- The first so many of eight items are those of the list, and nothing fills the others.
+pub record ItemsAre (a : List Item) (n : ℕ) (l : List LawItem) : Type 0 where
+  pub room : length a ≡ 8
+  pub shows : take n a ≡ map shown l
+  pub count : n ≡ length l
+  pub clear : (k : ℕ) → n ≤ k → getD a k noItem ≡ noItem
+
+-- A pass: the disk it leaves, with the next ticket as it was, and its grants.
+pub record PassedIs (d : Disk) (a : List Item) (n next : ℕ) (p : Passing) : Type 0 where
+  pub disk : DiskIs d (record { core = p .core; waiting = p .ahead; next = next })
+  pub items : ItemsAre a n (p .items)
+
+-- A call on the disk d: a refusal has its number, and the disk as it was; an accepted one has 0, the new disk and the items
+-- behind the call's own.
+abbrev pub Answers : Disk → ℕ → Disk → Item → List Item → ℕ → Outcome → Type 0
+Answers d number e own a n (refused m) =
+    (number ≡ m) × (e ≡ d) × (own ≡ noItem) × ItemsAre a n []
+Answers d number e own a n (accepted f []) = ⊥
+Answers d number e own a n (accepted f (i ∷ items)) =
+    (number ≡ 0) × DiskIs e f × (own ≡ shown i) × ItemsAre a n items
+
+-- ---- claim
+
+-- The value that a write of a kind brings is in range.
+abbrev pub valueBy : Kind → ℤ → Bool
+valueBy (sets a) z = valueFits a z
+valueBy (adds a) z = leb (size z) mostValue
+valueBy (reads m) z = leb (size z) mostValue
+
+-- The number of the first rule that holds, and 0 where none does.
+abbrev pub firstNumber : List Rule → ℕ
+firstNumber [] = 0
+firstNumber (r ∷ rs) = cond (r .when) (r .number) (firstNumber rs)
+
+-- The refusals of a claim before its decision, 15 to 19; its ticket is the next one.
+unfoldable pub firstRules : Figures → ℕ → ℕ → Claim → List Rule
+firstRules f clock now c =
+    record { number = 15; when = ltb now clock }
+    ∷ claimRefusals diskTable f now c
+    ++ (record { number = 19; when = ltb lastTicket (c .ticket) } ∷ [])
+
+-- The disk as a decision sees it at second now.
+abbrev pub coreAt : Disk → ℕ → Core
+coreAt d now = coreOf (figuresIn d) now (take (d .actives) (d .active))
+
+-- What the grant of c at second now with that total wants.
+pub record TakesGrant (d : Disk) (now : ℕ) (c : Claim) (sum : ℕ) : Type 0 where
+  pub good : Good d
+  pub may : MayGrant diskTable (coreAt d now) c
+  pub tells : TellFits d c
+  pub counts : sum ≡ total diskTable (coreAt d now) c
+  pub few : sum ≤ mostError
+  pub ticket : c .ticket ≤ lastTicket
+
+-- The claim c granted at second now.
+unfoldable pub grantedOf : LawDisk → ℕ → Claim → Outcome
+grantedOf e now c =
+    accepted
+    (record { core = grant diskTable (setClock now (e .core)) c; waiting = e .waiting; next = c .ticket + 1 })
+    (grantItem diskTable (setClock now (e .core)) c ∷ [])
+
+-- The claim c waiting from second now on.
+unfoldable pub waitingOf : LawDisk → ℕ → Claim → Outcome
+waitingOf e now c =
+    accepted
+    (record { core = setClock now (e .core); waiting = queue c (e .waiting); next = c .ticket + 1 })
+    (item 1 (c .ticket) ∷ [])
+
+-- ---- release
+
+-- The active claim at a place ended at second now.
+unfoldable pub endedAt : LawDisk → ℕ → ℕ → LawDisk
+endedAt e now at =
+    record {
+      core =
+          record {
+            clock = now;
+            figures =
+                landBy (e .core .figures)
+                (kindOf diskTable (getD (e .core .active) at noClaim))
+                (getD (e .core .active) at noClaim);
+            active = removeAt at (e .core .active);
+          };
+      waiting = e .waiting;
+      next = e .next;
+    }
+
+-- The waiting claim at a place gone at second now.
+unfoldable pub leftAt : LawDisk → ℕ → ℕ → LawDisk
+leftAt e now at = record { core = setClock now (e .core); waiting = removeAt at (e .waiting); next = e .next }
+
+-- The pass over what an end leaves.
+unfoldable pub released : LawDisk → ℕ → Outcome
+released e n =
+    accepted
+    (record {
+      core = pass diskTable (e .core) (e .waiting) .core;
+      waiting = pass diskTable (e .core) (e .waiting) .ahead;
+      next = e .next;
+    })
+    (item 2 n ∷ pass diskTable (e .core) (e .waiting) .items)
+
+-- ---- open
+
+-- A disk without claims.
+abbrev pub emptyOf : ℕ → ℕ → ℕ → ℕ → Disk
+emptyOf now l0 l1 next =
+    record {
+      clock = now;
+      next = next;
+      actives = 0;
+      waitings = 0;
+      used = newAttr now l0;
+      promised = newAttr now l1;
+      state = newAttr now 0;
+      active = replicate 8 noClaim;
+      waiting = replicate 8 noClaim;
+    }
+
+-- What stands for no disk: a disk of zeros.
+abbrev pub noDisk : Disk
+noDisk = emptyOf 0 0 0 0

@@ -1,0 +1,388 @@
+// The three requests on one disk: open, claim and release, with refusals 15 to 21 in their order.
+
+ghost use mathlib.Core.Path.{_≡_};
+ghost use Prim.Native.Nat.{_<_, _≤_};
+ghost use lib.ListN.{getD};
+ghost use Rattle.claims.specs.Rows.{noClaim};
+ghost use Rattle.law.specs.Base.{allTrue};
+ghost use Rattle.law.specs.Types.{refused as lawRefused, claimOf};
+ghost use Rattle.law.specs.Entries.{kindAt, kindOf};
+ghost use Rattle.law.specs.Calls.{fieldTests, ownFits, newAttr, openDisk, claim as lawClaim, release as lawRelease};
+ghost use Rattle.law.specs.Sound.{Sound};
+ghost use Rattle.law.specs.DiskType.{diskTable};
+ghost use Rattle.lock.specs.Methods.{figuresOf};
+ghost use Rattle.rules.specs.Disks.{diskOf, Good, DiskIs, LandFits};
+ghost use Rattle.rules.specs.Answers.{askedOf, Answers, valueBy, firstNumber, firstRules, TakesGrant, grantedOf, waitingOf, endedAt, leftAt, released, emptyOf, noDisk};
+use crate::disk::Asked;
+use crate::disk::Disk;
+use crate::disk::Item;
+use crate::disk::no_item;
+use crate::grant::grant;
+use crate::grant::land;
+use crate::pass::pass;
+use claims::find;
+use claims::no_claim;
+use claims::queued;
+use claims::taken;
+use law::Attr;
+use law::Claim;
+use lock::figures::told;
+use lock::figures::written;
+use lock::method::METHODS;
+use lock::method::is_reading;
+use lock::step::decide;
+use num::signed::narrow;
+use num::signed::size;
+use num::signed::within;
+
+const MOST_VALUE: u32 = 1000000000;
+
+const MOST_ERROR: u32 = 2000000000;
+
+const MOST_STATE: u32 = 255;
+
+const STATE: u32 = 3;
+
+const LAST_TICKET: u32 = 999999;
+
+const PLACES: u32 = 8;
+
+// What a call comes to: 0 and the new disk with the call's own item and the grants of its pass, or the
+// number of the refusal and the disk as it was.
+pub struct Answered {
+    pub refusal: u32,
+    pub disk: Disk,
+    pub own: Item,
+    pub items: [Item; 8],
+    pub count: u32,
+}
+
+// A refusal.
+pub fn refused(d: Disk, number: u32) -> Answered
+    ensures { λ r. ⌜ Answers d (r .refusal) (r .disk) (r .own) (r .items) (r .count) (lawRefused number) ⌝ }
+{
+    let none = no_item();
+    Answered {
+        refusal: number,
+        disk: d,
+        own: none,
+        items: [none; 8],
+        count: 0,
+    }
+}
+
+// A state is a code 0 to 255; every other value lies within 1,000,000,000, either way.
+fn value_fits(m: u32, value: i32) -> bool
+    ensures { λ r. ⌜ r ≡ valueBy (kindAt diskTable m) value ⌝ }
+{
+    if m == STATE {
+        if value < 0 {
+            return false;
+        }
+        return within(value, MOST_STATE);
+    }
+    within(value, MOST_VALUE)
+}
+
+// 17: the fields of a claim at second now.
+fn fields_fit(c: Claim, now: u32) -> bool
+    ensures { λ r. ⌜ r ≡ allTrue (fieldTests now (kindOf diskTable c) c) ⌝ }
+{
+    if MOST_ERROR < c.error {
+        return false;
+    }
+    if is_reading(c.method) {
+        if c.measured != 0 {
+            return false;
+        }
+        return size(c.value) == 0;
+    }
+    if c.flag != 0 {
+        return false;
+    }
+    if now < c.measured {
+        return false;
+    }
+    value_fits(c.method, c.value)
+}
+
+// 18: a write's own error is within its attribute's limit.
+fn own_fits(m: u32, error: u32, used: Attr, promised: Attr, state: Attr) -> bool
+    ensures { λ r. ⌜ r ≡ ownFits (figuresOf used promised state) (kindAt diskTable m) error ⌝ }
+{
+    if is_reading(m) {
+        return true;
+    }
+    let a = written(m, used, promised, state);
+    error <= a.limit
+}
+
+// The number of the first of the refusals 15 to 19 that holds, and 0 where none does.
+fn checked(c: Claim, now: u32, clock: u32, used: Attr, promised: Attr, state: Attr) -> u32
+    ensures { λ r. ⌜ r ≡ firstNumber (firstRules (figuresOf used promised state) clock now c) ⌝ }
+{
+    if now < clock {
+        return 15;
+    }
+    if METHODS <= c.method {
+        return 16;
+    }
+    if !fields_fit(c, now) {
+        return 17;
+    }
+    if !own_fits(c.method, c.error, used, promised, state) {
+        return 18;
+    }
+    if LAST_TICKET < c.ticket {
+        return 19;
+    }
+    0
+}
+
+// The claim that is asked for, with the ticket that it would take.
+fn asked(q: Asked, ticket: u32) -> Claim
+    ensures { λ r. ⌜ r ≡ claimOf (askedOf q) ticket ⌝ }
+{
+    Claim {
+        ticket,
+        method: q.method,
+        priority: q.priority,
+        flag: q.flag,
+        measured: q.measured,
+        value: q.value,
+        error: q.error,
+        told: 0,
+        amount: 0,
+    }
+}
+
+// The disk with the active claim at that place ended at second now.
+fn ended(d: Disk, now: u32, at: usize) -> Disk
+    requires { ⌜ Good d ⌝ }
+    requires { ⌜ at < d .actives ⌝ }
+    requires { ⌜ LandFits d (getD (d .active) at noClaim) ⌝ }
+    ensures { λ r. ⌜ DiskIs r (endedAt (diskOf d) now at) ⌝ }
+{
+    let active = d.active;
+    let n = d.actives;
+    let w = active[at];
+    let mut e = land(d, w);
+    e.clock = now;
+    let rest = taken(active, n as usize, at);
+    e.active = rest;
+    e.actives = n - 1;
+    e
+}
+
+// The disk with the waiting claim at that place gone at second now.
+fn left(d: Disk, now: u32, at: usize) -> Disk
+    requires { ⌜ Good d ⌝ }
+    requires { ⌜ at < d .waitings ⌝ }
+    ensures { λ r. ⌜ DiskIs r (leftAt (diskOf d) now at) ⌝ }
+{
+    let waiting = d.waiting;
+    let n = d.waitings;
+    let mut e = d;
+    e.clock = now;
+    let rest = taken(waiting, n as usize, at);
+    e.waiting = rest;
+    e.waitings = n - 1;
+    e
+}
+
+// The pass over the disk that an ended claim leaves, and the answer of that release.
+fn settled(d: Disk, ticket: u32) -> Answered
+    requires { ⌜ Good d ⌝ }
+    requires { ⌜ Sound diskTable (diskOf d) ⌝ }
+    ensures { λ r. ⌜ Answers d (r .refusal) (r .disk) (r .own) (r .items) (r .count) (released (diskOf d) ticket) ⌝ }
+{
+    let p = pass(d);
+    let disk = p.disk;
+    let items = p.items;
+    Answered {
+        refusal: 0,
+        disk,
+        own: Item {
+            code: 2,
+            ticket,
+            told: 0,
+            amount: 0,
+        },
+        items,
+        count: p.count,
+    }
+}
+
+// A release on a disk.
+pub fn release(d: Disk, now: u32, ticket: u32) -> Answered
+    requires { ⌜ Good d ⌝ }
+    requires { ⌜ Sound diskTable (diskOf d) ⌝ }
+    ensures { λ r. ⌜ Answers d (r .refusal) (r .disk) (r .own) (r .items) (r .count) (lawRelease diskTable (diskOf d) now ticket) ⌝ }
+{
+    if now < d.clock {
+        return refused(d, 15);
+    }
+    let active = d.active;
+    let actives = d.actives as usize;
+    let at = find(active, actives, ticket);
+    if at < actives {
+        return settled(ended(d, now, at), ticket);
+    }
+    let waiting = d.waiting;
+    let waitings = d.waitings as usize;
+    let place = find(waiting, waitings, ticket);
+    if place < waitings {
+        return settled(left(d, now, place), ticket);
+    }
+    refused(d, 21)
+}
+
+// The disk with the claim c granted at second now, and the answer of that grant.
+fn granting(d: Disk, now: u32, c: Claim, total: u64) -> Answered
+    requires { ⌜ TakesGrant d now c total ⌝ }
+    ensures { λ r. ⌜ Answers d (r .refusal) (r .disk) (r .own) (r .items) (r .count) (grantedOf (diskOf d) now c) ⌝ }
+{
+    let none = no_item();
+    let used = d.used;
+    let promised = d.promised;
+    let state = d.state;
+    let present = narrow(told(c.method, used, promised, state));
+    let mut e = d;
+    e.clock = now;
+    let mut f = grant(e, c, total);
+    f.next = c.ticket + 1;
+    Answered {
+        refusal: 0,
+        disk: f,
+        own: Item {
+            code: 0,
+            ticket: c.ticket,
+            told: present,
+            amount: total as u32,
+        },
+        items: [none; 8],
+        count: 0,
+    }
+}
+
+// The disk with the claim c waiting from second now on, and the answer of that.
+fn waits(d: Disk, now: u32, c: Claim) -> Answered
+    requires { ⌜ Good d ⌝ }
+    requires { ⌜ d .waitings < 8 ⌝ }
+    requires { ⌜ c .ticket ≤ 999_999 ⌝ }
+    ensures { λ r. ⌜ Answers d (r .refusal) (r .disk) (r .own) (r .items) (r .count) (waitingOf (diskOf d) now c) ⌝ }
+{
+    let none = no_item();
+    let waiting = d.waiting;
+    let n = d.waitings;
+    let mut e = d;
+    e.clock = now;
+    let more = queued(waiting, n as usize, c);
+    e.waiting = more;
+    e.waitings = n + 1;
+    e.next = c.ticket + 1;
+    Answered {
+        refusal: 0,
+        disk: e,
+        own: Item {
+            code: 1,
+            ticket: c.ticket,
+            told: 0,
+            amount: 0,
+        },
+        items: [none; 8],
+        count: 0,
+    }
+}
+
+// A claim on a disk, as the law decides it.
+pub fn claim(d: Disk, q: Asked) -> Answered
+    requires { ⌜ Good d ⌝ }
+    requires { ⌜ Sound diskTable (diskOf d) ⌝ }
+    ensures { λ r. ⌜ Answers d (r .refusal) (r .disk) (r .own) (r .items) (r .count) (lawClaim diskTable (diskOf d) (askedOf q)) ⌝ }
+{
+    let now = q.now;
+    let c = asked(q, d.next);
+    let used = d.used;
+    let promised = d.promised;
+    let state = d.state;
+    let number = checked(c, now, d.clock, used, promised, state);
+    if number != 0 {
+        return refused(d, number);
+    }
+    let active = d.active;
+    let waiting = d.waiting;
+    let verdict = decide(
+        active,
+        d.actives as usize,
+        waiting,
+        d.waitings as usize,
+        c,
+        now,
+        used,
+        promised,
+        state,
+    );
+    if verdict.ok {
+        return granting(d, now, c, verdict.total);
+    }
+    if PLACES <= d.waitings {
+        return refused(d, 20);
+    }
+    waits(d, now, c)
+}
+
+// A figure of an empty disk.
+fn blank(now: u32, limit: u32) -> Attr
+    ensures { λ r. ⌜ r ≡ newAttr now limit ⌝ }
+{
+    Attr {
+        value: 0,
+        stamp: now,
+        amount: 0,
+        limit,
+    }
+}
+
+// A disk without claims.
+fn empty(now: u32, l0: u32, l1: u32, next: u32) -> Disk
+    ensures { λ r. ⌜ r ≡ emptyOf now l0 l1 next ⌝ }
+{
+    let none = no_claim();
+    Disk {
+        clock: now,
+        next,
+        actives: 0,
+        waitings: 0,
+        used: blank(now, l0),
+        promised: blank(now, l1),
+        state: blank(now, 0),
+        active: [none; 8],
+        waiting: [none; 8],
+    }
+}
+
+// The opened disk. A refused one is the disk of zeros.
+pub fn open(now: u32, l0: u32, l1: u32) -> Answered
+    ensures { λ r. ⌜ Answers noDisk (r .refusal) (r .disk) (r .own) (r .items) (r .count) (openDisk now l0 l1) ⌝ }
+{
+    if MOST_ERROR < l0 {
+        return refused(empty(0, 0, 0, 0), 17);
+    }
+    if MOST_ERROR < l1 {
+        return refused(empty(0, 0, 0, 0), 17);
+    }
+    let none = no_item();
+    Answered {
+        refusal: 0,
+        disk: empty(now, l0, l1, 1),
+        own: Item {
+            code: 3,
+            ticket: 0,
+            told: 0,
+            amount: 0,
+        },
+        items: [none; 8],
+        count: 0,
+    }
+}
