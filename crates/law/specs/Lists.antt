@@ -1,10 +1,10 @@
 -- Laws of lists: a fact of every element, a fact of every two, and how they go with the tests and sums of Base.
-use Prim.Native.Nat.{ℕ, suc, _+_}
+use Prim.Native.Nat.{ℕ, zero, suc, _+_, _<_}
 use mathlib.Core.Bool.{Bool, true, false, cond, _&&_, _||_}
 use mathlib.Core.List.{List, [], _∷_, _++_, map}
 use mathlib.Core.Path.{_≡_, refl, ap, _∙_, subst}
 use native.Mathlib.Omega.{arith}
-use lib.ListN.{length}
+use lib.ListN.{length, getD}
 use Rattle.law.specs.Base.{allTrue, everyOf, anyOf, sumOf}
 
 -- P holds of every element.
@@ -62,6 +62,12 @@ module _ {A : Type 0} (P : A → Type 0) where
   pub all-less : (xs : List A) (y : A) (ys : List A) → All P (xs ++ (y ∷ ys)) → All P (xs ++ ys)
   all-less [] y ys h = h .1
   all-less (x ∷ xs) y ys h = (h .0, all-less xs y ys (h .1))
+
+-- At a place of the list.
+pub all-at : {A : Type 0} (P : A → Type 0) (xs : List A) (d : A) (i : ℕ) → i < length xs → All P xs → P (getD xs i d)
+all-at P [] d i h k = absurd (omega arith)
+all-at P (x ∷ xs) d zero h k = k .0
+all-at P (x ∷ xs) d (suc i) h k = all-at P xs d i (omega arith) (k .1)
 
 pub all-map : {A B : Type 0} (P : B → Type 0) (f : A → B) (xs : List A) → All (λ x. P (f x)) xs → All P (map f xs)
 all-map P f [] h = tt

@@ -14,8 +14,8 @@ use Rattle.num.specs.Bits.{hasBit}
 use Rattle.law.specs.declared.Claim.{Claim}
 use Rattle.law.specs.declared.Entry.{Entry}
 use Rattle.law.specs.declared.Entry.the-variants.{A, N, D, G}
-use Rattle.law.specs.Lists.{All, never-true}
-use Rattle.law.specs.Types.{a0, a1, a2, Kind, sets, adds, reads, Figures, putAttr, Core, Disk as LawDisk}
+use Rattle.law.specs.Lists.{never-true}
+use Rattle.law.specs.Types.{Attribute, attr, a0, a1, a2, Kind, sets, adds, reads, Figures, putAttr, Core, Disk as LawDisk}
 use Rattle.law.specs.Entries.{isNever, entryBy, kindAt, kindOf, entry}
 use Rattle.law.specs.Granting.{limitBy, raisesBy, withAmount, noteBy, tellBy, amountBy, putTold, gap, total, stays, raised, grant}
 use Rattle.law.specs.GrantLaws.{NotNever, MayGrant}
@@ -27,6 +27,8 @@ use Rattle.lock.specs.Methods.{writesBy, writeMask, isReading}
 use Rattle.lock.specs.Loops.{coreOf, letsBy}
 use Rattle.rules.specs.Disks.{figuresIn, coreIn, diskOf, Good, DiskIs, withFigures, withActive, landOf, noteOf, raiseBy, raisedOf, grantOf}
 use Rattle.rules.specs.declared.disk.Disk.{Disk}
+use Rattle.law.specs.Lists.{all-at}
+use Rattle.rules.proofs.RangeLaws.{limit-range}
 
 -- ---- the end of a claim
 
@@ -91,11 +93,6 @@ module _ (d : Disk) (c : Claim) (n : ℕ) where
 
 -- ---- what is raised
 
-all-at : {X : Type 0} (P : X → Type 0) (l : List X) (i : ℕ) (d : X) → i < length l → All P l → P (getD l i d)
-all-at P [] i d h p = absurd (omega arith)
-all-at P (x ∷ l) zero d h p = p .0
-all-at P (x ∷ l) (suc i) d h p = all-at P l i d (omega arith) (p .1)
-
 -- The active claim x raised by a requested write of method m.
 abbrev pub raiseWith : ℕ → ℕ → Claim → Claim
 raiseWith m n x = raiseBy x (entryBy (kindOf diskTable x) (kindAt diskTable m)) n
@@ -135,8 +132,8 @@ raise-lets d c good g r i h =
     rw getD-take
     at
     (lets-by (x .amount) (x .error) (c .error + gap diskTable s c) (entry diskTable x c) (kindOf diskTable c) r
-    (all-at (λ w. NotNever diskTable w c) (s .active) i noClaim k (g .noNever))
-    (all-at (λ w. stays diskTable s c w ≡ true) (s .active) i noClaim k (g .allStay)))
+    (all-at (λ w. NotNever diskTable w c) (s .active) noClaim i k (g .noNever))
+    (all-at (λ w. stays diskTable s c w ≡ true) (s .active) noClaim i k (g .allStay)))
 
 -- ---- the active claims changed in place
 
@@ -210,13 +207,12 @@ withLast d n g =
 
 -- What a total stays within is at most n where every limit is.
 pub limit-most : (f : Figures) (k : Kind) (own n : ℕ) → f .f0 .limit ≤ n → f .f1 .limit ≤ n → f .f2 .limit ≤ n → own ≤ n → limitBy f k own ≤ n
-limit-most f (sets a0) own n x y z h = x
-limit-most f (sets a1) own n x y z h = y
-limit-most f (sets a2) own n x y z h = z
-limit-most f (adds a0) own n x y z h = x
-limit-most f (adds a1) own n x y z h = y
-limit-most f (adds a2) own n x y z h = z
-limit-most f (reads m) own n x y z h = h
+limit-most f k own n x y z h = limit-range f k own n each h
+  where
+    each : (a : Attribute) → attr f a .limit ≤ n
+    each a0 = x
+    each a1 = y
+    each a2 = z
 
 -- There is a place for it.
 pub grant-place : (d : Disk) (c : Claim) → Good d → MayGrant diskTable (coreIn d) c → d .actives < 8

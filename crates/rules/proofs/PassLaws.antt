@@ -1,35 +1,33 @@
 -- Laws of the pass in place: what a turn that grants and one that waits make of the disk so far, and what is left at the end.
 use Prim.Native.Nat.{ℕ, _+_, _≤_, _<_}
-use mathlib.Core.Bool.{Bool, true, false}
+use mathlib.Core.Bool.{true, false}
 use mathlib.Core.List.{List, [], _∷_, _++_, map}
 use mathlib.Core.Path.{_≡_, refl, sym, ap, _∙_}
-use native.Mathlib.Numerals.{add-one}
 use native.Mathlib.Omega.{arith}
-use lib.Dec.{ltb}
 use lib.IntN.{ℤ}
-use lib.ListN.{length, take, drop, getD, set, replicate, length-set, length-append, length-map, getD-replicate, List·getD-eq-default}
-use lib.Seq.{getD-take, getD-at, getD-set-other, take-suc-set, take-take}
-use borrow.Author.Tests.{ltb-true, ltb-false}
-use Rattle.num.specs.Metric.{size}
+use lib.ListN.{length, take, drop, getD, set, replicate, length-append, length-map}
+use lib.Seq.{getD-take, getD-at, take-take}
 use Rattle.law.specs.declared.Attr.{Attr}
 use Rattle.law.specs.declared.Claim.{Claim}
-use Rattle.law.specs.Types.{mostError, Attribute, a0, a1, a2, Kind, sets, adds, reads, properKind, Figures, attr, Core, Item as LawItem, Disk as LawDisk}
+use Rattle.law.specs.Types.{mostError, Attribute, Figures, attr, Core, Item as LawItem, Disk as LawDisk}
 use Rattle.law.specs.Entries.{kindOf}
 use Rattle.law.specs.Lists.{All, all-say, all-right}
-use Rattle.law.specs.Fields.{ValueFits, FieldsFit}
-use Rattle.law.specs.Granting.{limitBy, withAmount, noteBy, tellBy, total, granted, raised, asGranted, grant, grantItem}
+use Rattle.law.specs.Fields.{ValueFits}
+use Rattle.law.specs.Granting.{withAmount, noteBy, total, granted, raised, asGranted, grant, grantItem}
 use Rattle.law.specs.Calls.{Passing, turn, passOver, pass}
-use Rattle.law.specs.Sound.{LimitFits, Passes, Sound}
+use Rattle.law.specs.Sound.{Passes, Sound}
 use Rattle.law.specs.DiskType.{diskTable}
 use Rattle.law.specs.GrantLaws.{MayGrant, grant-says}
 use Rattle.law.specs.ProperLaws.{proper-kind, disk-proper}
-use Rattle.law.specs.AttributeLaws.{note-same, told-range}
+use Rattle.law.specs.AttributeLaws.{note-same}
 use Rattle.claims.specs.Rows.{noClaim, RowIs}
 use Rattle.claims.specs.RowLaws.{row-length, left-on, left-end, store-row, store-front, store-left}
 use Rattle.rules.specs.declared.disk.Disk.{Disk}
 use Rattle.rules.specs.declared.disk.Item.{Item}
 use Rattle.rules.specs.Disks.{figuresIn, coreIn, diskOf, Good, DiskIs, grantOf, TellFits}
-use Rattle.rules.specs.Answers.{noItem, shown, ItemsAre, PassedIs}
+use Rattle.rules.specs.Answers.{noItem, ItemsAre, PassedIs}
+use Rattle.rules.proofs.ItemLaws.{items-none, items-put}
+use Rattle.rules.proofs.RangeLaws.{limit-most, error-most, limit-range, tell-range}
 
 -- ---- a turn of the law
 
@@ -45,57 +43,6 @@ pub turn-waits : (p : Passing) (c : Claim) → granted diskTable (p .core) (p .a
     turn diskTable p c ≡ passing (p .core) (p .ahead ++ (c ∷ [])) (p .items)
 unfolding turn
 turn-waits p c h = rw h
-
--- ---- eight items
-
-map-last : (l : List LawItem) (x : LawItem) → map shown (l ++ (x ∷ [])) ≡ map shown l ++ (shown x ∷ [])
-map-last [] x = refl
-map-last (y ∷ l) x = ap {B = List Item} (λ r. shown y ∷ r) (map-last l x)
-
-pub items-none : ItemsAre (replicate 8 noItem) 0 []
-items-none = record { room = refl; shows = refl; count = refl; clear = λ k h. go k (ltb k 8) refl }
-  where
-    go : (k : ℕ) (b : Bool) → ltb k 8 ≡ b → getD (replicate 8 noItem) k noItem ≡ noItem
-    go k true e = getD-replicate 8 k noItem noItem (ltb-true k 8 e)
-    go k false e = List·getD-eq-default (replicate 8 noItem) noItem {n = k} (ltb-false k 8 e)
-
-pub items-put : {a : List Item} {n : ℕ} {l : List LawItem} → ItemsAre a n l → n < 8 → (x : LawItem) →
-    ItemsAre (set a n (shown x)) (n + 1) (l ++ (x ∷ []))
-items-put {a} {n} {l} r h x =
-    record {
-      room = length-set a n (shown x) ∙ r .room;
-      shows =
-          rw add-one
-          (take-suc-set a n (shown x) (omega (arith, r .room))
-          ∙ ap (λ (s : List Item). s ++ (shown x ∷ [])) (r .shows)
-          ∙ sym (map-last l x));
-      count = omega (arith, r .count, length-append l (x ∷ []));
-      clear = λ k g. getD-set-other a n k (shown x) noItem (λ e. omega arith) ∙ r .clear k (omega arith);
-    }
-
--- ---- ranges
-
-limit-most : (a : Attribute) (n : ℕ) → LimitFits a n → n ≤ mostError
-limit-most a0 n h = h
-limit-most a1 n h = h
-limit-most a2 n h = omega arith
-
-error-most : (now : ℕ) (k : Kind) (c : Claim) → FieldsFit now k c → c .error ≤ mostError
-error-most now (sets a) c h = h .3
-error-most now (adds a) c h = h .3
-error-most now (reads m) c h = h .2
-
-limit-range : (f : Figures) (k : Kind) (own : ℕ) → ((a : Attribute) → attr f a .limit ≤ mostError) → own ≤ mostError →
-    limitBy f k own ≤ mostError
-limit-range f (sets a) own h o = h a
-limit-range f (adds a) own h o = h a
-limit-range f (reads m) own h o = o
-
-tell-range : (f : Figures) (k : Kind) → properKind k ≡ true → ((a : Attribute) → ValueFits a (attr f a .value)) →
-    size (tellBy f k) ≤ mostError
-tell-range f (sets a) p h = omega arith
-tell-range f (adds a) p h = omega arith
-tell-range f (reads m) p h = told-range f m p h
 
 -- ---- the pass so far
 
@@ -257,7 +204,7 @@ module _ {d e : Disk} {a : List Item} {count i k : ℕ} (g : Going d e a count i
           omega (
             arith,
             may .inLimit,
-            limit-range (figuresIn e) (kindOf diskTable (tried e i)) (tried e i .error) (g .limits) (errors-now .0),
+            limit-range (figuresIn e) (kindOf diskTable (tried e i)) (tried e i .error) mostError (g .limits) (errors-now .0),
           )
 
       module _ {r : Disk} (w : DiskIs r (grantOf (diskOf e) (tried e i))) where

@@ -12,7 +12,7 @@ use Rattle.law.specs.Types.{Disk as LawDisk}
 use Rattle.law.specs.DiskType.{diskTable}
 use Rattle.rules.specs.Answers.{grantedOf}
 use Rattle.rules.specs.Disks.{figuresIn}
-use Rattle.rules.proofs.CallLaws.{items-none}
+use Rattle.rules.proofs.ItemLaws.{items-none}
 use Rattle.rules.proofs.calls.granting.Statement.{statement}
 use Rattle.rules.proofs.calls.granting.Tie as tie
 

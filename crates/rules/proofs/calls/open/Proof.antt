@@ -2,7 +2,8 @@
 use mathlib.Core.Path.{refl}
 use borrow.Author.Needs.{needs}
 use Rattle.law.specs.Calls.{opened}
-use Rattle.rules.proofs.CallLaws.{items-none, open-over-0, open-over-1, open-fits, empty-good}
+use Rattle.rules.proofs.ItemLaws.{items-none}
+use Rattle.rules.proofs.CallLaws.{open-over-0, open-over-1, open-fits, empty-good}
 use Rattle.rules.proofs.calls.open.Statement.{statement}
 use Rattle.rules.proofs.calls.open.Tie as tie
 

@@ -1,7 +1,7 @@
 -- The disk is handed back as it was, and no item is filled.
 use mathlib.Core.Path.{refl}
 use borrow.Author.Needs.{needs}
-use Rattle.rules.proofs.CallLaws.{items-none}
+use Rattle.rules.proofs.ItemLaws.{items-none}
 use Rattle.rules.proofs.calls.refused.Statement.{statement}
 use Rattle.rules.proofs.calls.refused.Tie as tie
 

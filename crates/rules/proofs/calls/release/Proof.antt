@@ -10,7 +10,7 @@ use Rattle.claims.specs.Rows.{noClaim, placeOf}
 use Rattle.claims.specs.RowLaws.{row-length}
 use Rattle.rules.specs.Answers.{released}
 use Rattle.rules.specs.Disks.{diskOf}
-use Rattle.rules.proofs.CallLaws.{land-fits, release-early, release-active, sound-active, release-waiting, sound-waiting, release-lost}
+use Rattle.rules.proofs.ReleaseLaws.{land-fits, release-early, release-active, sound-active, release-waiting, sound-waiting, release-lost}
 use Rattle.rules.proofs.calls.release.Statement.{statement}
 use Rattle.rules.proofs.calls.release.Tie as tie
 

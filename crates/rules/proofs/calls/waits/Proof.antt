@@ -2,7 +2,7 @@
 use mathlib.Core.Path.{refl}
 use borrow.Author.Needs.{needs}
 use Rattle.rules.specs.Answers.{waitingOf}
-use Rattle.rules.proofs.CallLaws.{items-none}
+use Rattle.rules.proofs.ItemLaws.{items-none}
 use Rattle.rules.proofs.calls.waits.Statement.{statement}
 use Rattle.rules.proofs.calls.waits.Tie as tie
 
