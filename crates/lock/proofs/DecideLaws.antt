@@ -72,4 +72,4 @@ module _ (f : Figures) (now : ℕ) (ws ahead : List Claim) (c : Claim) where
 -- A claim that is not granted has no total.
 pub refusal : (f : Figures) (now : ℕ) (ws ahead : List Claim) (c : Claim) → false ≡ granted diskTable (coreOf f now ws) ahead c →
     DecidedIs false 0 (coreOf f now ws) ahead c
-refusal f now ws ahead c h = record { says = h; counts = λ q. never-true (0 ≡ total diskTable (coreOf f now ws) c) q }
+refusal f now ws ahead c h = record { says = h; counts = λ q. never-true (0 ≡ total diskTable (coreOf f now ws) c) q; fails = λ q. refl }

@@ -75,12 +75,14 @@ barsAt f now sum priority m w =
 abbrev pub barsOf : Figures → ℕ → ℕ → Claim → Claim → Bool
 barsOf f now sum c = barsAt f now sum (c .priority) (c .method)
 
--- A lock step that passes or not, and its total where it passes.
+-- A lock step that passes or not, and its total where it passes, else 0.
 pub record WeighedIs (ok : Bool) (sum : ℕ) (f : Figures) (ws : List Claim) (c : Claim) : Type 0 where
   pub says : ok ≡ lockStep diskTable (coreOf f 0 ws) c
   pub counts : ok ≡ true → sum ≡ total diskTable (coreOf f 0 ws) c
+  pub fails : ok ≡ false → sum ≡ 0
 
--- A decision on a claim behind those ahead, and its total where it is granted.
+-- A decision on a claim behind those ahead, and its total where it is granted, else 0.
 pub record DecidedIs (ok : Bool) (sum : ℕ) (s : Core) (ahead : List Claim) (c : Claim) : Type 0 where
   pub says : ok ≡ granted diskTable s ahead c
   pub counts : ok ≡ true → sum ≡ total diskTable s c
+  pub fails : ok ≡ false → sum ≡ 0

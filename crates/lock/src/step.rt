@@ -27,7 +27,7 @@ use law::Entry;
 use num::signed::gap;
 use num::signed::size;
 
-// What the lock step comes to: whether all of it passes, and then the total.
+// What the lock step comes to: whether all of it passes, and then the total; 0 where it does not.
 pub struct Weighed {
     pub ok: bool,
     pub total: u64,
@@ -159,9 +159,12 @@ pub fn weigh(
             };
         }
     }
+    if total <= most {
+        return Weighed { ok: true, total };
+    }
     Weighed {
-        ok: total <= most,
-        total: total,
+        ok: false,
+        total: 0,
     }
 }
 

@@ -52,6 +52,7 @@ returns-2 c =
           (sym (b .barred .ensures) ∙ w .before .if2 .left)
           (omega (arith, row-length (z .pre .0), c .if3 .taken));
       counts = λ q. w .weigh .ensures .counts q ∙ same-total f (a .now) ws ahead (a .c);
+      fails = w .weigh .ensures .fails;
     }
 
 returns-3 : tie.Need-returns-3

@@ -4,10 +4,12 @@ use Prim.Native.Nat.{_+_, _*_, _-_, _≤_}
 use mathlib.Core.Bool.{false, true}
 use mathlib.Core.Path.{_≡_, refl, sym, ap, _∙_}
 use native.Mathlib.Omega.{arith}
+use lib.Dec.{leb}
 use lib.ListN.{take, drop, getD}
+use borrow.Author.Tests.{le-leb, lt-leb}
 use Rattle.law.specs.Base.{everyOf, sumOf}
 use Rattle.law.specs.Lists.{never-true}
-use Rattle.law.specs.Granting.{total}
+use Rattle.law.specs.Granting.{total, lockStep}
 use Rattle.law.specs.DiskType.{diskTable, diskEntries}
 use Rattle.claims.specs.Rows.{noClaim}
 use Rattle.claims.specs.RowLaws.{sum-turn, sum-end, every-on, every-not, every-end}
@@ -127,10 +129,18 @@ returns c =
           lock-not f (a .c) (take (a .n) (a .t1))
           (every-not (z .pre) (letsOf f (a .c)) (s .loop .i) (t .loop-test .taken) (sym g ∙ c .if1 .left) ∙ s .loop .inv .2);
       counts = λ (q : false ≡ true). never-true (0 ≡ total diskTable (coreOf f 0 (take (a .n) (a .t1))) (a .c)) q;
+      fails = λ q. refl;
     }
 
-returns-2 : tie.Need-returns-2 Inv-loop μ-loop
-returns-2 c =
+-- The whole walk has passed: the total is the law's, and the limit decides.
+whole : (c : tie.After-loop Inv-loop μ-loop) →
+    let s = c .before in
+    let a = s .before .before .before .before .before .before .args in
+    let f = figuresOf (a .used) (a .promised) (a .state) in
+    let ws = take (a .n) (a .t1) in
+    (s .loop .total ≡ total diskTable (coreOf f 0 ws) (a .c))
+    × (leb (s .loop .total) (s .before .before .limit .result) ≡ lockStep diskTable (coreOf f 0 ws) (a .c))
+whole c =
     let s = c .before in
     let st = s .before in
     let z = st .before .before .before .before .before in
@@ -140,12 +150,29 @@ returns-2 c =
     let b : s .loop .total ≡ st .start .result + sumOf (costOf f (a .c)) ws =
     omega (arith, s .loop .inv .3, sum-end (z .pre) (costOf f (a .c)) (s .loop .i) (c .loop-test .left)) in
     let e : s .loop .total ≡ total diskTable (coreOf f 0 ws) (a .c) =
-    b ∙ ap (λ n. n + sumOf (costOf f (a .c)) ws) (st .start .ensures .0) ∙ total-is f (a .c) ws in
+    b ∙ ap (λ n. n + sumOf (costOf f (a .c)) ws) (st .start .ensures .0) ∙ total-is f (a .c) ws in (
+      e,
+      rw (e, st .before .limit .ensures)
+          (lock-all f (a .c) ws (every-end (z .pre) (letsOf f (a .c)) (s .loop .i) (c .loop-test .left) ∙ s .loop .inv .2)),
+    )
+
+returns-2 : tie.Need-returns-2 Inv-loop μ-loop
+returns-2 c =
+    let w = whole (c .before) in
     record {
-      says =
-          rw (e, st .before .limit .ensures)
-          (lock-all f (a .c) ws (every-end (z .pre) (letsOf f (a .c)) (s .loop .i) (c .loop-test .left) ∙ s .loop .inv .2));
-      counts = λ q. e;
+      says = sym (le-leb _ _ (c .if2 .taken)) ∙ w .1;
+      counts = λ q. w .0;
+      fails = λ (q : true ≡ false). never-true (c .before .before .loop .total ≡ 0) (sym q);
+    }
+
+returns-3 : tie.Need-returns-3 Inv-loop μ-loop
+returns-3 c =
+    let w = whole (c .before) in
+    let a = c .before .before .before .before .before .before .before .before .args in
+    record {
+      says = sym (lt-leb _ _ (c .if2 .left)) ∙ w .1;
+      counts = λ (q : false ≡ true). never-true (0 ≡ total diskTable (coreOf (figuresOf (a .used) (a .promised) (a .state)) 0 (take (a .n) (a .t1))) (a .c)) q;
+      fails = λ q. refl;
     }
 
 pub weigh-spec : {M : Type 1} → statement M
@@ -175,4 +202,5 @@ weigh-spec =
     loop-less
     loop-again
     returns
-    returns-2)
+    returns-2
+    returns-3)
