@@ -1,2 +1,3 @@
 pub mod Disks
 pub mod Answers
+pub mod AnswerLaws
