@@ -146,8 +146,7 @@ pub fn weigh(
     while i < n {
         let x = active[i];
         let row = index_of(x.method);
-        let line = table[row];
-        let found = line[col];
+        let found = table[row][col];
         let e = entry(x.method, m, found);
         if lets(e, reading, x.amount, x.error, raise) {
             total = total + cost(e, reading, c, x, used, promised, state);
@@ -225,8 +224,7 @@ pub fn barred(
     while i < n {
         let w = waiting[i];
         let row = index_of(w.method);
-        let line = table[row];
-        let found = line[col];
+        let found = table[row][col];
         let e = entry(w.method, m, found);
         if bars(w, e, priority, now, adds, used, promised, state) {
             return true;

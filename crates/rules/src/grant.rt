@@ -75,8 +75,7 @@ fn raise_all(d: Disk, c: Claim) -> Disk
     while i < n {
         let x = e.active[i];
         let row = index_of(x.method);
-        let line = table[row];
-        let found = line[col];
+        let found = table[row][col];
         e.active[i] = raised(x, entry(x.method, m, found), raise);
         i += 1;
     }

@@ -39,19 +39,19 @@ array-copy-out-w c = search needs
 index-of-requires-2 : tie.Need-index-of-requires-2 Inv-loop μ-loop
 index-of-requires-2 c κs = tt
 
-mul-line : tie.Need-mul-line Inv-loop μ-loop
-mul-line c = omega (arith, c .index-of2 .ensures .1)
+mul-found : tie.Need-mul-found Inv-loop μ-loop
+mul-found c = omega (arith, c .index-of2 .ensures .1)
 
-array-copy-out-line : tie.Need-array-copy-out-line Inv-loop μ-loop
-array-copy-out-line c = c .index-of2 .ensures .1
+index-1-found : tie.Need-index-1-found Inv-loop μ-loop
+index-1-found c = c .index-of2 .ensures .1
 
-array-copy-out-found : tie.Need-array-copy-out-found Inv-loop μ-loop
-array-copy-out-found c = c .before .before .before .before .before .index-of .ensures .1
+index-2-found : tie.Need-index-2-found Inv-loop μ-loop
+index-2-found c = c .before .before .before .before .index-of .ensures .1
 
 entry-requires : tie.Need-entry-requires Inv-loop μ-loop
 unfolding diskEntries
 entry-requires c κs =
-    let k = c .before .before in
+    let k = c .before in
     let z = k .before .before .before .before in
     found-at (getD (z .before .args .t1) (k .before .before .before .loop .i) noClaim .method) (z .before .args .c .method)
     (k .index-of2 .result) (z .index-of .result) (k .index-of2 .ensures .0) (z .index-of .ensures .0)
@@ -62,7 +62,7 @@ bars-requires c κs = search needs
 returns : tie.Need-returns Inv-loop μ-loop
 returns c =
     let b = c .before in
-    let t = b .before .before .before .before .before .before in
+    let t = b .before .before .before .before .before in
     let s = t .before in
     let z = s .before .before in
     let a = z .args in
@@ -82,7 +82,7 @@ loop-less c = search needs
 loop-again : tie.Need-loop-again Inv-loop μ-loop
 loop-again c =
     let b = c .before in
-    let t = b .before .before .before .before .before .before in
+    let t = b .before .before .before .before .before in
     let s = t .before in
     let z = s .before .before in
     let a = z .args in
@@ -114,9 +114,9 @@ barred-spec =
     mul-w
     array-copy-out-w
     index-of-requires-2
-    mul-line
-    array-copy-out-line
-    array-copy-out-found
+    mul-found
+    index-1-found
+    index-2-found
     entry-requires
     bars-requires
     returns

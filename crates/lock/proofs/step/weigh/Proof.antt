@@ -61,25 +61,25 @@ array-copy-out-x c = search needs
 index-of-requires-2 : tie.Need-index-of-requires-2 Inv-loop μ-loop
 index-of-requires-2 c κs = tt
 
-mul-line : tie.Need-mul-line Inv-loop μ-loop
-mul-line c = omega (arith, c .index-of2 .ensures .1)
+mul-found : tie.Need-mul-found Inv-loop μ-loop
+mul-found c = omega (arith, c .index-of2 .ensures .1)
 
-array-copy-out-line : tie.Need-array-copy-out-line Inv-loop μ-loop
-array-copy-out-line c = c .index-of2 .ensures .1
+index-1-found : tie.Need-index-1-found Inv-loop μ-loop
+index-1-found c = c .index-of2 .ensures .1
 
-array-copy-out-found : tie.Need-array-copy-out-found Inv-loop μ-loop
-array-copy-out-found c = c .before .before .before .before .before .before .before .before .before .index-of .ensures .1
+index-2-found : tie.Need-index-2-found Inv-loop μ-loop
+index-2-found c = c .before .before .before .before .before .before .before .before .index-of .ensures .1
 
 entry-requires : tie.Need-entry-requires Inv-loop μ-loop
 unfolding diskEntries
 entry-requires c κs =
-    let k = c .before .before in
+    let k = c .before in
     let z = k .before .before .before .before .before .before .before .before in
     found-at (getD (z .before .args .t1) (k .before .before .before .loop .i) noClaim .method) (z .before .args .c .method)
     (k .index-of2 .result) (z .index-of .result) (k .index-of2 .ensures .0) (z .index-of .ensures .0)
 
 lets-requires : tie.Need-lets-requires Inv-loop μ-loop
-lets-requires c κs = c .before .before .before .before .before .before .before .before .before .raise-of .ensures .1
+lets-requires c κs = c .before .before .before .before .before .before .before .before .raise-of .ensures .1
 
 cost-requires : tie.Need-cost-requires Inv-loop μ-loop
 cost-requires c κs = tt
@@ -97,7 +97,7 @@ loop-again : tie.Need-loop-again Inv-loop μ-loop
 loop-again c =
     let l = c .before .before in
     let e = l .before in
-    let t = e .before .before .before .before .before in
+    let t = e .before .before .before .before in
     let s = t .before in
     let ra = s .before .before .before in
     let z = ra .before .before .before in
@@ -116,7 +116,7 @@ returns : tie.Need-returns Inv-loop μ-loop
 returns c =
     let l = c .before in
     let e = l .before in
-    let t = e .before .before .before .before .before in
+    let t = e .before .before .before .before in
     let s = t .before in
     let ra = s .before .before .before in
     let z = ra .before .before .before in
@@ -191,9 +191,9 @@ weigh-spec =
     mul-x
     array-copy-out-x
     index-of-requires-2
-    mul-line
-    array-copy-out-line
-    array-copy-out-found
+    mul-found
+    index-1-found
+    index-2-found
     entry-requires
     lets-requires
     cost-requires

@@ -45,19 +45,19 @@ element-copy-out-x c = search needs
 index-of-requires-2 : tie.Need-index-of-requires-2 Inv-loop μ-loop
 index-of-requires-2 c κs = tt
 
-mul-line : tie.Need-mul-line Inv-loop μ-loop
-mul-line c = omega (arith, c .index-of2 .ensures .1)
+mul-found : tie.Need-mul-found Inv-loop μ-loop
+mul-found c = omega (arith, c .index-of2 .ensures .1)
 
-array-copy-out-line : tie.Need-array-copy-out-line Inv-loop μ-loop
-array-copy-out-line c = c .index-of2 .ensures .1
+index-1-found : tie.Need-index-1-found Inv-loop μ-loop
+index-1-found c = c .index-of2 .ensures .1
 
-array-copy-out-found : tie.Need-array-copy-out-found Inv-loop μ-loop
-array-copy-out-found c = c .before .before .before .before .before .index-of .ensures .1
+index-2-found : tie.Need-index-2-found Inv-loop μ-loop
+index-2-found c = c .before .before .before .before .index-of .ensures .1
 
 entry-requires : tie.Need-entry-requires Inv-loop μ-loop
 unfolding diskEntries
 entry-requires c κs =
-    let k = c .before .before in
+    let k = c .before in
     let l = k .before .before .before in
     let z = l .before in
     let a = z .before .before .before .before .before .before .args in
@@ -66,7 +66,7 @@ entry-requires c κs =
 
 raised-requires : tie.Need-raised-requires Inv-loop μ-loop
 raised-requires c κs =
-    let l = c .before .before .before .before .before .before in
+    let l = c .before .before .before .before .before in
     let s = l .before .before .before .before .before .before .before in
     let a = s .args in
     let i = l .loop .i in
@@ -74,10 +74,10 @@ raised-requires c κs =
     ap (λ y. getD (y .active) i noClaim) (l .loop .inv .1)
     ∙ to-back (raiseWith (a .c .method) _) (a .d .active) i i noClaim (omega arith) in
     rw (c .entry .ensures, raise-is (l .before .before), q)
-    (raise-lets (a .d) (a .c) (s .pre .0) (s .pre .1 .0) (s .pre .1 .1) i (c .before .before .before .before .before .loop-test .taken))
+    (raise-lets (a .d) (a .c) (s .pre .0) (s .pre .1 .0) (s .pre .1 .1) i (c .before .before .before .before .loop-test .taken))
 
-mul-t75 : tie.Need-mul-t75 Inv-loop μ-loop
-mul-t75 c = search needs
+mul-t74 : tie.Need-mul-t74 Inv-loop μ-loop
+mul-t74 c = search needs
 
 element-set-from-e : tie.Need-element-set-from-e Inv-loop μ-loop
 element-set-from-e c = search needs
@@ -90,7 +90,7 @@ loop-less c = search needs
 
 loop-again : tie.Need-loop-again Inv-loop μ-loop
 loop-again c =
-    let l = c .before .before .before .before .before .before .before in
+    let l = c .before .before .before .before .before .before in
     let s = l .before .before .before .before .before .before .before in
     let a = s .args in
     let i = l .loop .i in
@@ -122,12 +122,12 @@ raise-all-spec =
     mul-x
     element-copy-out-x
     index-of-requires-2
-    mul-line
-    array-copy-out-line
-    array-copy-out-found
+    mul-found
+    index-1-found
+    index-2-found
     entry-requires
     raised-requires
-    mul-t75
+    mul-t74
     element-set-from-e
     add-i
     loop-less
