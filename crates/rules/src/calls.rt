@@ -247,13 +247,13 @@ fn granting(d: Disk, now: u32, c: Claim, total: u64) -> Answered
     let promised = d.promised;
     let state = d.state;
     let present = narrow(told(c.method, used, promised, state));
-    let mut e = d;
-    e.clock = now;
-    let mut f = grant(e, c, total);
+    let mut f = d;
+    f.clock = now;
     f.next = c.ticket + 1;
+    let disk = grant(f, c, total);
     Answered {
         refusal: 0,
-        disk: f,
+        disk,
         own: Item {
             code: 0,
             ticket: c.ticket,

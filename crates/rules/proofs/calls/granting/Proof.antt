@@ -1,6 +1,5 @@
 -- What is told is in range, so that it is the law's in 32 bits too; the disk is the grant's with the next ticket.
-use Prim.Native.Nat.{_+_}
-use mathlib.Core.Path.{_≡_, refl, ap, _∙_}
+use mathlib.Core.Path.{_≡_, refl, _∙_}
 use native.Mathlib.Omega.{arith}
 use borrow.Author.Needs.{needs}
 use mir.Facts.{toZ-ofZ}
@@ -8,7 +7,6 @@ use mir.Syntax.{w32, w64}
 use Rattle.num.specs.Fits.{size-fits}
 use Rattle.law.specs.Entries.{kindOf}
 use Rattle.law.specs.Granting.{tellBy, grantItem}
-use Rattle.law.specs.Types.{Disk as LawDisk}
 use Rattle.law.specs.DiskType.{diskTable}
 use Rattle.rules.specs.Answers.{grantedOf}
 use Rattle.rules.specs.Disks.{figuresIn}
@@ -44,13 +42,9 @@ returns c =
     let i = n .before .before .before .before .before in
     let s = i .before in
     let z : n .narrow .result ≡ tellBy (figuresIn (s .args .d)) (kindOf diskTable (s .args .c)) =
-    n .narrow .ensures ∙ toZ-ofZ (size-fits w64 (t .result) (omega (arith, t .ensures .1))) ∙ t .ensures .0 in
-    let g = c .before .grant .ensures in (
+    n .narrow .ensures ∙ toZ-ofZ (size-fits w64 (t .result) (omega (arith, t .ensures .1))) ∙ t .ensures .0 in (
       refl,
-      record {
-        good = record { active = g .good .active; waiting = g .good .waiting };
-        is = ap (λ (x : LawDisk). record { core = x .core; waiting = x .waiting; next = s .args .c .ticket + 1 }) (g .is);
-      },
+      c .grant .ensures,
       rw (z, toZ-ofZ (size-fits w32 (tellBy (figuresIn (s .args .d)) (kindOf diskTable (s .args .c))) (omega (arith, s .pre .tells))), s .pre .counts),
       rw (i .no-item .ensures) items-none,
     )
@@ -58,4 +52,4 @@ returns c =
 pub granting-spec : {M : Type 1} → statement M
 granting-spec =
     tie.close
-    (tie.spec no-item-requires told-requires narrow-requires grant-requires add-f cast-t13 returns)
+    (tie.spec no-item-requires told-requires narrow-requires add-f grant-requires cast-t13 returns)
