@@ -2,7 +2,7 @@
 use Prim.Native.Nat.{ℕ, _≤_, _<_}
 use mathlib.Core.Bool.{Bool, true, false, not, _&&_}
 use mathlib.Core.List.{List, [], _∷_}
-use mathlib.Core.Path.{_≡_, refl}
+use mathlib.Core.Path.{_≡_, refl, ap}
 use borrow.Author.Tests.{lt-ltb, le-ltb}
 use lib.Dec.{ltb}
 use lib.ListN.{length}
@@ -16,6 +16,10 @@ use Rattle.lock.specs.Methods.{preOf}
 use Rattle.lock.specs.Loops.{coreOf, barsBy, barsAt, barsOf, DecidedIs}
 use Rattle.lock.proofs.LoopLaws.{any-same, last-test}
 use Rattle.lock.proofs.RuleLaws.{pre-is}
+
+pub from-not : (b v : Bool) → not b ≡ v → b ≡ not v
+from-not true v h = ap not h
+from-not false v h = ap not h
 
 no-place : (l : Bool) → false ≡ (l && (false && true))
 no-place true = refl
@@ -61,6 +65,10 @@ module _ (f : Figures) (now : ℕ) (ws ahead : List Claim) (c : Claim) where
     not-free h g = rw (← granted-is, ← e, h, g)
 
     module _ (h : preOf f now sum c ≡ true) (g : anyOf (barsOf f now sum c) ahead ≡ false) where
+      -- The lock step fails.
+      pub not-locked : lockStep diskTable (coreOf f 0 ws) c ≡ false → false ≡ granted diskTable (coreOf f now ws) ahead c
+      not-locked l = rw (← granted-is, ← e, h, g, l)
+
       -- There is no place.
       pub not-placed : 8 ≤ length ws → false ≡ granted diskTable (coreOf f now ws) ahead c
       not-placed l = rw (← granted-is, ← e, h, g, le-ltb (length ws) 8 l) (no-place (lockStep diskTable (coreOf f 0 ws) c))

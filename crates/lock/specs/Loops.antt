@@ -11,7 +11,7 @@ use Rattle.law.specs.declared.Entry.the-variants.{A, N, D, G}
 use Rattle.law.specs.Base.{allTrue}
 use Rattle.law.specs.Types.{a1, Figures, Core}
 use Rattle.law.specs.Entries.{isAlways, kindAt, entryBy}
-use Rattle.law.specs.Granting.{addsTo, gapBy, lockStep, total, granted}
+use Rattle.law.specs.Granting.{addsTo, gapBy, total, granted}
 use Rattle.law.specs.DiskType.{diskTable}
 use Rattle.lock.specs.Methods.{isReading, preOf}
 
@@ -74,12 +74,6 @@ barsAt f now sum priority m w =
 -- It bars c.
 abbrev pub barsOf : Figures → ℕ → ℕ → Claim → Claim → Bool
 barsOf f now sum c = barsAt f now sum (c .priority) (c .method)
-
--- A lock step that passes or not, and its total where it passes, else 0.
-pub record WeighedIs (ok : Bool) (sum : ℕ) (f : Figures) (ws : List Claim) (c : Claim) : Type 0 where
-  pub says : ok ≡ lockStep diskTable (coreOf f 0 ws) c
-  pub counts : ok ≡ true → sum ≡ total diskTable (coreOf f 0 ws) c
-  pub fails : ok ≡ false → sum ≡ 0
 
 -- A decision on a claim behind those ahead, and its total where it is granted, else 0.
 pub record DecidedIs (ok : Bool) (sum : ℕ) (s : Core) (ahead : List Claim) (c : Claim) : Type 0 where

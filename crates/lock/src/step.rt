@@ -1,18 +1,15 @@
-// The loops over the claims of a disk: the sum of the active adds, the lock step, barring, and the
-// decision made of them.
+// The decision on a claim: what two claims have to do with each other, and three walks over the claims
+// of a disk.
 
 ghost use mathlib.Core.Path.{_≡_};
 ghost use Prim.Native.Nat.{_≤_, _<_};
 ghost use lib.ListN.{take};
-ghost use Rattle.law.specs.Base.{anyOf};
-ghost use Rattle.law.specs.Types.{a1};
 ghost use Rattle.law.specs.Entries.{entryBy, kindAt, isAlways};
-ghost use Rattle.law.specs.Granting.{addsOn};
 ghost use Rattle.law.specs.DiskType.{diskTable};
 ghost use Rattle.law.specs.TableLaws.{entryAt};
 ghost use Rattle.claims.specs.Rows.{Row};
 ghost use Rattle.lock.specs.Methods.{figuresOf};
-ghost use Rattle.lock.specs.Loops.{coreOf, addOf, indexOf, letsBy, costBetween, raiseOf, barsBy, barsOf, WeighedIs, DecidedIs};
+ghost use Rattle.lock.specs.Loops.{coreOf, addOf, indexOf, letsBy, costBetween, raiseOf, barsBy, DecidedIs};
 use crate::figures::gap_of;
 use crate::figures::limit;
 use crate::figures::preconditions;
@@ -27,8 +24,8 @@ use law::Entry;
 use num::signed::gap;
 use num::signed::size;
 
-// What the lock step comes to: whether all of it passes, and then the total; 0 where it does not.
-pub struct Weighed {
+// What the decision comes to: whether the claim is granted, and then the total; 0 where it is not.
+pub struct Decided {
     pub ok: bool,
     pub total: u64,
 }
@@ -43,22 +40,6 @@ fn add_part(x: Claim) -> u64
     } else {
         0
     }
-}
-
-// The sum of |d| over the active adds.
-pub fn adds_on(active: [Claim; 8], n: usize) -> u64
-    requires { ⌜ Row active n ⌝ }
-    ensures { λ r. ⌜ r ≡ addsOn diskTable a1 (take n active) ⌝ }
-    ensures { λ r. ⌜ r ≤ 17179869184 ⌝ }
-{
-    let mut sum: u64 = 0;
-    let mut i: usize = 0;
-    while i < n {
-        let x = active[i];
-        sum = sum + add_part(x);
-        i += 1;
-    }
-    sum
 }
 
 // The index of a method in the table; the first for a method that there is not.
@@ -122,51 +103,6 @@ pub fn raise_of(c: Claim, used: Attr, promised: Attr, state: Attr) -> u64
     c.error as u64 + gap_of(c.method, c.value, used, promised, state)
 }
 
-// The lock step of c against the active claims: the starting amount and what each adds, within the
-// limit; no entry N; each active reading within its own limit.
-pub fn weigh(
-    active: [Claim; 8],
-    n: usize,
-    c: Claim,
-    used: Attr,
-    promised: Attr,
-    state: Attr,
-) -> Weighed
-    requires { ⌜ Row active n ⌝ }
-    ensures { λ r. ⌜ WeighedIs (r .ok) (r .total) (figuresOf used promised state) (take n active) c ⌝ }
-{
-    let table = TABLE;
-    let m = c.method;
-    let col = index_of(m);
-    let reading = is_reading(m);
-    let raise = raise_of(c, used, promised, state);
-    let most = limit(m, c.error, used, promised, state) as u64;
-    let mut total = start(m, c.error, used, promised, state);
-    let mut i: usize = 0;
-    while i < n {
-        let x = active[i];
-        let row = index_of(x.method);
-        let found = table[row][col];
-        let e = entry(x.method, m, found);
-        if lets(e, reading, x.amount, x.error, raise) {
-            total = total + cost(e, reading, c, x, used, promised, state);
-            i += 1;
-        } else {
-            return Weighed {
-                ok: false,
-                total: 0,
-            };
-        }
-    }
-    if total <= most {
-        return Weighed { ok: true, total };
-    }
-    Weighed {
-        ok: false,
-        total: 0,
-    }
-}
-
 fn is_always(e: Entry) -> bool
     ensures { λ r. ⌜ r ≡ isAlways e ⌝ }
 {
@@ -201,40 +137,9 @@ fn bars(
     preconditions(w, now, adds, used, promised, state)
 }
 
-// Whether one of the first n waiting claims bars c; adds is the sum of |d| over the active adds.
-pub fn barred(
-    waiting: [Claim; 8],
-    n: usize,
-    c: Claim,
-    now: u32,
-    adds: u64,
-    used: Attr,
-    promised: Attr,
-    state: Attr,
-) -> bool
-    requires { ⌜ n ≤ 8 ⌝ }
-    requires { ⌜ adds ≤ 34359738368 ⌝ }
-    ensures { λ r. ⌜ r ≡ anyOf (barsOf (figuresOf used promised state) now adds c) (take n waiting) ⌝ }
-{
-    let table = TABLE;
-    let m = c.method;
-    let col = index_of(m);
-    let priority = c.priority;
-    let mut i: usize = 0;
-    while i < n {
-        let w = waiting[i];
-        let row = index_of(w.method);
-        let found = table[row][col];
-        let e = entry(w.method, m, found);
-        if bars(w, e, priority, now, adds, used, promised, state) {
-            return true;
-        }
-        i += 1;
-    }
-    false
-}
-
-// The decision on c behind the first waiting ones: preconditions, barring, lock step, place.
+// The decision on c behind the first waiting ones. The active adds are summed up; then preconditions, barring by one
+// ahead, the lock step (the starting amount and what each active claim adds, no entry N, each active reading within its
+// own limit) and the place. The walks stand in one function: a call with a list would copy it.
 pub fn decide(
     active: [Claim; 8],
     n: usize,
@@ -245,25 +150,67 @@ pub fn decide(
     used: Attr,
     promised: Attr,
     state: Attr,
-) -> Weighed
+) -> Decided
     requires { ⌜ Row active n ⌝ }
     requires { ⌜ ahead ≤ 8 ⌝ }
     ensures { λ r. ⌜ DecidedIs (r .ok) (r .total) (coreOf (figuresOf used promised state) now (take n active)) (take ahead waiting) c ⌝ }
 {
-    let adds = adds_on(active, n);
-    if preconditions(c, now, adds, used, promised, state) {
-        if barred(waiting, ahead, c, now, adds, used, promised, state) {
-            return Weighed {
+    let table = TABLE;
+    let m = c.method;
+    let col = index_of(m);
+    let mut adds: u64 = 0;
+    let mut h: usize = 0;
+    while h < n {
+        let x = active[h];
+        adds = adds + add_part(x);
+        h += 1;
+    }
+    if !preconditions(c, now, adds, used, promised, state) {
+        return Decided {
+            ok: false,
+            total: 0,
+        };
+    }
+    let mut j: usize = 0;
+    while j < ahead {
+        let w = waiting[j];
+        let row = index_of(w.method);
+        let found = table[row][col];
+        let e = entry(w.method, m, found);
+        if bars(w, e, c.priority, now, adds, used, promised, state) {
+            return Decided {
                 ok: false,
                 total: 0,
             };
         }
-        let w = weigh(active, n, c, used, promised, state);
-        if n < 8 {
-            return w;
+        j += 1;
+    }
+    let reading = is_reading(m);
+    let raise = raise_of(c, used, promised, state);
+    let most = limit(m, c.error, used, promised, state) as u64;
+    let mut total = start(m, c.error, used, promised, state);
+    let mut i: usize = 0;
+    while i < n {
+        let x = active[i];
+        let row = index_of(x.method);
+        let found = table[row][col];
+        let e = entry(x.method, m, found);
+        if lets(e, reading, x.amount, x.error, raise) {
+            total = total + cost(e, reading, c, x, used, promised, state);
+            i += 1;
+        } else {
+            return Decided {
+                ok: false,
+                total: 0,
+            };
         }
     }
-    Weighed {
+    if n < 8 {
+        if total <= most {
+            return Decided { ok: true, total };
+        }
+    }
+    Decided {
         ok: false,
         total: 0,
     }
