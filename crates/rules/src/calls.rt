@@ -4,19 +4,17 @@ ghost use mathlib.Core.Path.{_≡_};
 ghost use Prim.Native.Nat.{_<_, _≤_};
 ghost use lib.ListN.{getD};
 ghost use Rattle.claims.specs.Rows.{noClaim};
-ghost use Rattle.law.specs.Base.{allTrue};
 ghost use Rattle.law.specs.Types.{refused as lawRefused, claimOf};
-ghost use Rattle.law.specs.Entries.{kindAt, kindOf};
-ghost use Rattle.law.specs.Calls.{fieldTests, ownFits, newAttr, openDisk, claim as lawClaim, release as lawRelease};
+ghost use Rattle.law.specs.Calls.{newAttr, openDisk, claim as lawClaim, release as lawRelease};
 ghost use Rattle.law.specs.Sound.{Sound};
 ghost use Rattle.law.specs.DiskType.{diskTable};
-ghost use Rattle.lock.specs.Methods.{figuresOf};
 ghost use Rattle.rules.specs.Disks.{diskOf, Good, DiskIs, LandFits};
-ghost use Rattle.rules.specs.Answers.{askedOf, Answers, valueBy, firstNumber, firstRules, TakesGrant, grantedOf, waitingOf, endedAt, leftAt, released, emptyOf, noDisk};
+ghost use Rattle.rules.specs.Answers.{askedOf, Answers, TakesGrant, grantedOf, waitingOf, endedAt, leftAt, released, emptyOf, noDisk};
 use crate::disk::Asked;
 use crate::disk::Disk;
 use crate::disk::Item;
 use crate::disk::no_item;
+use crate::fields::checked;
 use crate::grant::grant;
 use crate::grant::land;
 use crate::pass::pass;
@@ -27,23 +25,10 @@ use claims::taken;
 use law::Attr;
 use law::Claim;
 use lock::figures::told;
-use lock::figures::written;
-use lock::method::METHODS;
-use lock::method::is_reading;
 use lock::step::decide;
 use num::signed::narrow;
-use num::signed::size;
-use num::signed::within;
-
-const MOST_VALUE: u32 = 1000000000;
 
 const MOST_ERROR: u32 = 2000000000;
-
-const MOST_STATE: u32 = 255;
-
-const STATE: u32 = 3;
-
-const LAST_TICKET: u32 = 999999;
 
 const PLACES: u32 = 8;
 
@@ -69,74 +54,6 @@ pub fn refused(d: Disk, number: u32) -> Answered
         items: [none; 8],
         count: 0,
     }
-}
-
-// A state is a code 0 to 255; every other value lies within 1,000,000,000, either way.
-fn value_fits(m: u32, value: i32) -> bool
-    ensures { λ r. ⌜ r ≡ valueBy (kindAt diskTable m) value ⌝ }
-{
-    if m == STATE {
-        if value < 0 {
-            return false;
-        }
-        return within(value, MOST_STATE);
-    }
-    within(value, MOST_VALUE)
-}
-
-// 17: the fields of a claim at second now.
-fn fields_fit(c: Claim, now: u32) -> bool
-    ensures { λ r. ⌜ r ≡ allTrue (fieldTests now (kindOf diskTable c) c) ⌝ }
-{
-    if MOST_ERROR < c.error {
-        return false;
-    }
-    if is_reading(c.method) {
-        if c.measured != 0 {
-            return false;
-        }
-        return size(c.value) == 0;
-    }
-    if c.flag != 0 {
-        return false;
-    }
-    if now < c.measured {
-        return false;
-    }
-    value_fits(c.method, c.value)
-}
-
-// 18: a write's own error is within its attribute's limit.
-fn own_fits(m: u32, error: u32, used: Attr, promised: Attr, state: Attr) -> bool
-    ensures { λ r. ⌜ r ≡ ownFits (figuresOf used promised state) (kindAt diskTable m) error ⌝ }
-{
-    if is_reading(m) {
-        return true;
-    }
-    let a = written(m, used, promised, state);
-    error <= a.limit
-}
-
-// The number of the first of the refusals 15 to 19 that holds, and 0 where none does.
-fn checked(c: Claim, now: u32, clock: u32, used: Attr, promised: Attr, state: Attr) -> u32
-    ensures { λ r. ⌜ r ≡ firstNumber (firstRules (figuresOf used promised state) clock now c) ⌝ }
-{
-    if now < clock {
-        return 15;
-    }
-    if METHODS <= c.method {
-        return 16;
-    }
-    if !fields_fit(c, now) {
-        return 17;
-    }
-    if !own_fits(c.method, c.error, used, promised, state) {
-        return 18;
-    }
-    if LAST_TICKET < c.ticket {
-        return 19;
-    }
-    0
 }
 
 // The claim that is asked for, with the ticket that it would take.

@@ -4,5 +4,6 @@
 
 pub mod calls;
 pub mod disk;
+pub mod fields;
 pub mod grant;
 pub mod pass;

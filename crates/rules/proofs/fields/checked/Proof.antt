@@ -4,8 +4,8 @@ use mathlib.Core.Path.{sym, ap, _∙_}
 use borrow.Author.Needs.{needs}
 use Rattle.lock.specs.Methods.{figuresOf}
 use Rattle.rules.proofs.CallLaws.{first-15, first-16, first-17, first-18, first-19, first-none}
-use Rattle.rules.proofs.calls.checked.Statement.{statement}
-use Rattle.rules.proofs.calls.checked.Tie as tie
+use Rattle.rules.proofs.fields.checked.Statement.{statement}
+use Rattle.rules.proofs.fields.checked.Tie as tie
 
 returns : tie.Need-returns
 returns c =

@@ -2,8 +2,8 @@
 use borrow.Author.Needs.{needs}
 use mir.Facts.{toZ-ofZ}
 use Rattle.rules.proofs.CallLaws.{state-below, state-from, value-other}
-use Rattle.rules.proofs.calls.value_fits.Statement.{statement}
-use Rattle.rules.proofs.calls.value_fits.Tie as tie
+use Rattle.rules.proofs.fields.value_fits.Statement.{statement}
+use Rattle.rules.proofs.fields.value_fits.Tie as tie
 
 returns : tie.Need-returns
 returns c =

@@ -5,8 +5,8 @@ use Rattle.law.specs.Entries.{kindAt}
 use Rattle.law.specs.DiskType.{diskTable}
 use Rattle.lock.specs.Methods.{figuresOf}
 use Rattle.rules.proofs.CallLaws.{own-reading, own-write}
-use Rattle.rules.proofs.calls.own_fits.Statement.{statement}
-use Rattle.rules.proofs.calls.own_fits.Tie as tie
+use Rattle.rules.proofs.fields.own_fits.Statement.{statement}
+use Rattle.rules.proofs.fields.own_fits.Tie as tie
 
 is-reading-requires : tie.Need-is-reading-requires
 is-reading-requires c κs = search needs

@@ -5,8 +5,8 @@ use mir.Facts.{toZ-ofZ}
 use Rattle.law.specs.Entries.{kindOf}
 use Rattle.law.specs.DiskType.{diskTable}
 use Rattle.rules.proofs.CallLaws.{error-over, reading-measured, reading-rest, write-flag, write-later, write-rest}
-use Rattle.rules.proofs.calls.fields_fit.Statement.{statement}
-use Rattle.rules.proofs.calls.fields_fit.Tie as tie
+use Rattle.rules.proofs.fields.fields_fit.Statement.{statement}
+use Rattle.rules.proofs.fields.fields_fit.Tie as tie
 
 returns : tie.Need-returns
 returns c =
