@@ -6,6 +6,8 @@ pub mod Fits
 pub mod Metric
 pub mod Opened
 pub mod OpenedLaws
+pub mod RunLaws
+pub mod Runs
 pub mod Signed
 pub mod Word
 pub mod WordLaws

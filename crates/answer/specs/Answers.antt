@@ -1,0 +1,95 @@
+-- 01's number of each refusal, the code, ticket, told and amount of each answer, and the bytes of the answer buffer.
+use Prim.Native.Nat.{ℕ, _+_, _*_, _-_}
+use mathlib.Core.Bool.{cond}
+use mathlib.Core.List.{List, [], _∷_, _++_}
+use lib.Dec.{eqb}
+use lib.IntN.{ℤ, pos}
+use lib.ListN.{length, replicate}
+use Rattle.num.specs.Signed.{wordOf}
+use Rattle.num.specs.Runs.{flat}
+use Rattle.answer.specs.declared.Refusal.{Refusal}
+use Rattle.answer.specs.declared.Refusal.the-variants as R
+use Rattle.answer.specs.declared.Answer.{Answer}
+use Rattle.answer.specs.declared.Answer.the-variants as A
+
+-- ---- refusals
+
+abbrev pub numberOf : Refusal → ℕ
+numberOf R.Length = 9
+numberOf R.Record = 10
+numberOf R.Disk = 11
+numberOf R.Open = 12
+numberOf R.Closed = 13
+numberOf R.Unsound = 14
+numberOf R.Clock = 15
+numberOf R.Method = 16
+numberOf R.Field = 17
+numberOf R.OwnError = 18
+numberOf R.NoTicket = 19
+numberOf R.Full = 20
+numberOf R.Ticket = 21
+
+-- The refusal of a number; of a number that no other has, 21's.
+unfoldable pub refusalOf : ℕ → Refusal
+refusalOf n =
+    cond (eqb n 9) R.Length
+    (cond (eqb n 10) R.Record
+    (cond (eqb n 11) R.Disk
+    (cond (eqb n 12) R.Open
+    (cond (eqb n 13) R.Closed
+    (cond (eqb n 14) R.Unsound
+    (cond (eqb n 15) R.Clock
+    (cond (eqb n 16) R.Method
+    (cond (eqb n 17) R.Field
+    (cond (eqb n 18) R.OwnError
+    (cond (eqb n 19) R.NoTicket
+    (cond (eqb n 20) R.Full R.Ticket)))))))))))
+
+-- ---- the four figures of an answer
+
+-- 0 granted, 1 waits, 2 released, 3 opened; a refusal's number.
+abbrev pub codeOf : Answer → ℕ
+codeOf (A.Granted t z m) = 0
+codeOf (A.Waits t) = 1
+codeOf (A.Released t) = 2
+codeOf A.Opened = 3
+codeOf (A.Refused r) = numberOf r
+
+-- Waits and released carry only the ticket, opened and a refusal nothing.
+abbrev pub ticketOf : Answer → ℕ
+ticketOf (A.Granted t z m) = t
+ticketOf (A.Waits t) = t
+ticketOf (A.Released t) = t
+ticketOf A.Opened = 0
+ticketOf (A.Refused r) = 0
+
+abbrev pub toldOf : Answer → ℤ
+toldOf (A.Granted t z m) = z
+toldOf (A.Waits t) = pos 0
+toldOf (A.Released t) = pos 0
+toldOf A.Opened = pos 0
+toldOf (A.Refused r) = pos 0
+
+abbrev pub amountOf : Answer → ℕ
+amountOf (A.Granted t z m) = m
+amountOf (A.Waits t) = 0
+amountOf (A.Released t) = 0
+amountOf A.Opened = 0
+amountOf (A.Refused r) = 0
+
+-- ---- the buffer: nine items of 16 bytes
+
+abbrev pub answerSize : ℕ
+answerSize = 144
+
+-- An item: code, ticket, told as signed, amount.
+unfoldable pub itemBytes : Answer → List ℕ
+itemBytes a = flat (codeOf a ∷ ticketOf a ∷ wordOf (toldOf a) ∷ amountOf a ∷ [])
+
+unfoldable pub itemsBytes : List Answer → List ℕ
+itemsBytes [] = []
+itemsBytes (a ∷ more) = itemBytes a ++ itemsBytes more
+
+-- First the call's own answer, then the pass's grants in order, unused items zero.
+unfoldable pub answerBytes : Answer → List Answer → List ℕ
+answerBytes own grants = itemBytes own ++ (itemsBytes grants ++ replicate (128 - 16 * length grants) 0)

@@ -1,0 +1,89 @@
+-- Laws of runs of bytes: what is put after another run, over the whole, or into a lent part.
+use Prim.Native.Nat.{ℕ, suc, _+_, _-_, _*_, _^_, _≤_, _<_}
+use mathlib.Core.List.{List, [], _∷_, _++_, append-assoc, append-nil}
+use mathlib.Core.Path.{_≡_, refl, sym, ap, _∙_}
+use native.Mathlib.Numerals.{add-one}
+use native.Mathlib.Omega.{arith}
+use borrow.Rule.Slice.PartMut.{putMid, post-is}
+use lib.ListN.{length, take, drop, set, length-append, drop-of-length-le}
+use lib.Seq.{sets, sets-eq, length-sets}
+use Rattle.num.specs.Word.{wordAt, putWord}
+use Rattle.num.specs.Runs.{le4, flat, splice}
+
+-- ---- lengths
+
+pub length-le4 : (x : ℕ) → length (le4 x) ≡ 4
+unfolding le4
+length-le4 x = refl
+
+pub length-flat : (xs : List ℕ) → length (flat xs) ≡ 4 * length xs
+unfolding flat
+length-flat [] = refl
+length-flat (x ∷ xs) = omega (arith, length-append (le4 x) (flat xs), length-le4 x, length-flat xs)
+
+pub length-splice : (l : List ℕ) (i : ℕ) (vs : List ℕ) → length (splice l i vs) ≡ length l
+unfolding splice
+length-splice l i vs = length-sets l i vs
+
+-- ---- the bytes of words
+
+pub flat-append : (xs ys : List ℕ) → flat (xs ++ ys) ≡ flat xs ++ flat ys
+unfolding flat
+flat-append [] ys = refl
+flat-append (x ∷ xs) ys = ap (λ (r : List ℕ). le4 x ++ r) (flat-append xs ys) ∙ sym (append-assoc (le4 x) (flat xs) (flat ys))
+
+pub flat-one : (x : ℕ) → flat (x ∷ []) ≡ le4 x
+unfolding flat
+flat-one x = append-nil (le4 x)
+
+-- A number below 2 ^ 32 is the word of its bytes, whatever stands behind them.
+pub word-le4 : (x : ℕ) (rest : List ℕ) → x < 2 ^ 32 → wordAt (le4 x ++ rest) 0 ≡ x
+unfolding wordAt le4
+word-le4 x rest h = omega arith
+
+-- ---- runs put into a list
+
+-- To put a word is to put its four bytes.
+pub put-splice : (s : List ℕ) (at x : ℕ) → putWord s at x ≡ splice s at (le4 x)
+unfolding putWord splice le4
+put-splice s at x =
+    let h2 : at + 2 ≡ suc (suc at) = omega arith in
+    let h3 : at + 3 ≡ suc (suc (suc at)) = omega arith in
+    rw (add-one at, h2, h3)
+
+pub splice-none : (l : List ℕ) (i : ℕ) → splice l i [] ≡ l
+unfolding splice
+splice-none l i = refl
+
+sets-sets : (xs : List ℕ) (l : List ℕ) (i : ℕ) (ys : List ℕ) → sets (sets l i xs) (i + length xs) ys ≡ sets l i (xs ++ ys)
+sets-sets [] l i ys = ap (λ (k : ℕ). sets l k ys) (omega arith)
+sets-sets (x ∷ xs) l i ys =
+    let h : i + length (x ∷ xs) ≡ suc i + length xs = omega arith in
+    ap (λ (k : ℕ). sets (sets (set l i x) (suc i) xs) k ys) h ∙ sets-sets xs (set l i x) (suc i) ys
+
+-- A run right behind another is one run.
+pub splice-splice : (l : List ℕ) (i m : ℕ) (xs ys : List ℕ) → i + length xs ≡ m →
+    splice (splice l i xs) m ys ≡ splice l i (xs ++ ys)
+unfolding splice
+splice-splice l i m xs ys h = ap (λ (k : ℕ). sets (sets l i xs) k ys) (sym h) ∙ sets-sets xs l i ys
+
+-- What stands in the list where a run is put.
+pub splice-eq : (l : List ℕ) (i : ℕ) (vs : List ℕ) → i + length vs ≤ length l →
+    splice l i vs ≡ take i l ++ (vs ++ drop (i + length vs) l)
+unfolding splice
+splice-eq l i vs h = sets-eq vs l i h ∙ append-assoc (take i l) vs (drop (i + length vs) l)
+
+-- A run over the whole list is that run.
+pub splice-whole : (l vs : List ℕ) → length l ≡ length vs → splice l 0 vs ≡ vs
+splice-whole l vs h =
+    splice-eq l 0 vs (omega arith)
+    ∙ ap (λ (r : List ℕ). vs ++ r) (drop-of-length-le l {i = 0 + length vs} (omega arith))
+    ∙ append-nil vs
+
+-- A lent part that comes back with other bytes.
+pub mid-splice : (a e : ℕ) (xs ys : List ℕ) → a ≤ e → e ≤ length xs → length ys ≡ e - a →
+    putMid a (e - a) xs ys ≡ splice xs a ys
+mid-splice a e xs ys h g k =
+    let w : a + length ys ≡ e = omega arith in
+    ap (λ (r : List ℕ). take a xs ++ (ys ++ r)) (post-is a e xs h ∙ ap (λ (n : ℕ). drop n xs) (sym w))
+    ∙ sym (splice-eq xs a ys (omega arith))

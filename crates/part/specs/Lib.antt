@@ -1,0 +1,2 @@
+-- The layout of a part, with its laws.
+pub mod Layout

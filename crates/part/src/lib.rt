@@ -1,0 +1,1 @@
+// The part of a disk in lent bytes: the disk by value that it holds, and back.
