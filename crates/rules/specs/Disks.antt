@@ -1,9 +1,9 @@
 -- The disk by value, and the disk of the law that it stands for.
-use Prim.Native.Nat.{ℕ, _+_, _≤_, _<_}
+use Prim.Native.Nat.{ℕ, _+_, _-_, _≤_, _<_}
 use mathlib.Core.List.{List, [], _∷_, _++_, map}
 use mathlib.Core.Path.{_≡_}
 use lib.IntN.{ℤ, _+ℤ_}
-use lib.ListN.{take, drop}
+use lib.ListN.{length, take, drop, replicate}
 use Rattle.num.specs.Metric.{size}
 use Rattle.law.specs.declared.Attr.{Attr}
 use Rattle.law.specs.declared.Claim.{Claim}
@@ -14,7 +14,7 @@ use Rattle.law.specs.declared.Entry.the-variants.{A, N, D, G}
 use Rattle.law.specs.Granting.{tellBy, noteBy, putTold, raised, grant}
 use Rattle.law.specs.Calls.{landBy}
 use Rattle.law.specs.DiskType.{diskTable}
-use Rattle.claims.specs.Rows.{Row}
+use Rattle.claims.specs.Rows.{Row, noClaim}
 use Rattle.lock.specs.Methods.{figuresOf}
 use Rattle.lock.specs.Loops.{coreOf}
 use Rattle.rules.specs.declared.disk.Disk.{Disk}
@@ -101,3 +101,23 @@ noteOf d c total = withFigures d (noteBy (figuresIn d) (kindOf diskTable c) tota
 unfoldable pub raisedOf : Disk → Claim → Disk
 raisedOf d c =
     withActive d (map (raised diskTable (coreIn d) c) (take (d .actives) (d .active)) ++ drop (d .actives) (d .active))
+
+-- ---- the disk by value of a disk of the law
+
+-- A list of at most eight claims in its array.
+abbrev pub padded : List Claim → List Claim
+padded ws = ws ++ replicate (8 - length ws) noClaim
+
+unfoldable pub byValue : LawDisk → Disk
+byValue e =
+    record {
+      clock = e .core .clock;
+      next = e .next;
+      actives = length (e .core .active);
+      waitings = length (e .waiting);
+      used = e .core .figures .f0;
+      promised = e .core .figures .f1;
+      state = e .core .figures .f2;
+      active = padded (e .core .active);
+      waiting = padded (e .waiting);
+    }

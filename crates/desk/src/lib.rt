@@ -1,0 +1,1 @@
+// The desk: one call on lent bytes.
