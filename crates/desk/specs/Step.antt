@@ -52,70 +52,63 @@ abbrev pub grantsOf : List Item → List Answer
 grantsOf [] = []
 grantsOf (i ∷ items) = map answerOf items
 
--- ---- a call on the part of an open disk
+-- ---- what a call comes to
 
--- The part after a call, the call's own answer, the pass's grants in order.
-pub record Served : Type 0 where
-  pub part : List ℕ
+-- The bytes lent to be written, a part or the board, after the call; the call's own answer; the pass's grants in order.
+pub record Told : Type 0 where
+  pub bytes : List ℕ
   pub own : Answer
   pub grants : List Answer
 
--- A refusal leaves the part as it was.
-abbrev pub refusedOn : List ℕ → Refusal → Served
-refusedOn p r = record { part = p; own = A.Refused r; grants = [] }
+-- A refusal leaves the bytes as they were.
+abbrev pub refusing : List ℕ → Refusal → Told
+refusing s r = record { bytes = s; own = A.Refused r; grants = [] }
+
+-- ---- a call on the part of an open disk
 
 -- What the law's outcome comes to on a part.
-abbrev pub settled : List ℕ → Outcome → Served
-settled p (refused n) = refusedOn p (refusalOf n)
-settled p (accepted d items) = record { part = partFor d; own = ownOf items; grants = grantsOf items }
+abbrev pub settled : List ℕ → Outcome → Told
+settled p (refused n) = refusing p (refusalOf n)
+settled p (accepted d items) = record { bytes = partFor d; own = ownOf items; grants = grantsOf items }
 
-unfoldable pub serveOf : List ℕ → Call → Served
-serveOf p k = cond (soundPart p) (settled p (answered diskTable (held p) k)) (refusedOn p R.Unsound)
+unfoldable pub serveOf : List ℕ → Call → Told
+serveOf p k = cond (soundPart p) (settled p (answered diskTable (held p) k)) (refusing p R.Unsound)
 
 -- ---- a call on a board of the right length
 
--- The board after a call, the call's own answer, the pass's grants in order.
-pub record Told : Type 0 where
-  pub board : List ℕ
-  pub own : Answer
-  pub grants : List Answer
-
-abbrev pub refusedWith : List ℕ → Refusal → Told
-refusedWith b r = record { board = b; own = A.Refused r; grants = [] }
-
 -- Only the disk's own part is written.
-abbrev pub onPart : List ℕ → ℕ → Served → Told
-onPart b d s = record { board = withPart b d (s .part); own = s .own; grants = s .grants }
+abbrev pub onPart : List ℕ → ℕ → Told → Told
+onPart b d t = record { bytes = withPart b d (t .bytes); own = t .own; grants = t .grants }
 
 -- An open also sets the disk's bit.
 abbrev pub opening : List ℕ → ℕ → Outcome → Told
-opening b d (refused n) = refusedWith b (refusalOf n)
-opening b d (accepted e items) = record { board = setOpen (withPart b d (partFor e)) d; own = ownOf items; grants = grantsOf items }
+opening b d (refused n) = refusing b (refusalOf n)
+opening b d (accepted e items) = record { bytes = setOpen (withPart b d (partFor e)) d; own = ownOf items; grants = grantsOf items }
 
 abbrev pub onDisk : List ℕ → List ℕ → ℕ → Told
 onDisk b r d =
     cond (eqb (kindOf r) 1)
-    (cond (openAt b d) (refusedWith b R.Open) (opening b d (openDisk (nowOf r) (usedLimit r) (promisedLimit r))))
-    (cond (openAt b d) (onPart b d (serveOf (partOf b d) (callOf r))) (refusedWith b R.Closed))
+    (cond (openAt b d) (refusing b R.Open) (opening b d (openDisk (nowOf r) (usedLimit r) (promisedLimit r))))
+    (cond (openAt b d) (onPart b d (serveOf (partOf b d) (callOf r))) (refusing b R.Closed))
 
 unfoldable pub tellOf : List ℕ → List ℕ → Told
 tellOf b r =
-    cond (wellFormed r) (cond (leb disks (diskNumber r)) (refusedWith b R.Disk) (onDisk b r (diskNumber r))) (refusedWith b R.Record)
+    cond (wellFormed r) (cond (leb disks (diskNumber r)) (refusing b R.Disk) (onDisk b r (diskNumber r))) (refusing b R.Record)
 
 -- ---- the call
 
--- The code, and what board and answer buffer hold at the end.
+-- The code, and what the bytes lent to be written and the answer buffer hold at the end.
 pub record Stepped : Type 0 where
   pub code : ℕ
-  pub board : List ℕ
+  pub bytes : List ℕ
   pub answer : List ℕ
 
 abbrev pub stepped : ℕ → List ℕ → List ℕ → Stepped
-stepped n b a = record { code = n; board = b; answer = a }
+stepped n s a = record { code = n; bytes = s; answer = a }
 
 -- All of the answer buffer is rewritten; the call returns the first item's code.
 abbrev pub written : Told → Stepped
-written t = stepped (codeOf (t .own)) (t .board) (answerBytes (t .own) (t .grants))
+written t = stepped (codeOf (t .own)) (t .bytes) (answerBytes (t .own) (t .grants))
 
 -- 9 is returned alone: neither buffer is touched.
 unfoldable pub stepOf : List ℕ → List ℕ → List ℕ → Stepped

@@ -2,21 +2,21 @@
 use Prim.Native.Nat.{ℕ, zero, suc, _≤_, _<_}
 use mathlib.Core.Bool.{Bool, true, false, cond, not, and-false, and-true}
 use mathlib.Core.List.{List, [], _∷_, _++_}
-use mathlib.Core.Path.{_≡_, refl, sym, _∙_}
+use mathlib.Core.Path.{_≡_, refl, sym, ap, _∙_}
 use native.Mathlib.Omega.{arith}
 use lib.Dec.{leb, eqb}
 use lib.IntN.{ℤ, pos, negsuc}
 use lib.Signed.{ltZ}
 use lib.ListN.{length, take}
-use borrow.Author.Tests.{ltb-true, ltb-false, lt-ltb, le-ltb, le-leb, lt-leb, eq-eqb, ne-eqb}
+use borrow.Author.Tests.{ltb-true, ltb-false, leb-true, leb-false, lt-ltb, le-ltb, le-leb, lt-leb, eq-eqb, ne-eqb, eqb-true, eqb-false}
 use Rattle.num.specs.Metric.{size}
 use Rattle.law.specs.declared.Claim.{Claim}
 use Rattle.law.specs.Base.{allTrue}
 use Rattle.law.specs.Lists.{All, never-true}
 use Rattle.law.specs.Types.{mostValue, mostError, mostState, places, lastTicket, Kind, sets, adds, reads, Figures, Disk as LawDisk, Asked as LawAsked, Outcome, refused, accepted}
 use Rattle.law.specs.Entries.{kindAt, kindOf}
-use Rattle.law.specs.Granting.{total}
-use Rattle.law.specs.Calls.{Rule, unless, fieldTests, ownFits, item, opened, openDisk, asked, grantedAtOnce, decided, claim}
+use Rattle.law.specs.Granting.{total, grantItem}
+use Rattle.law.specs.Calls.{Rule, unless, fieldTests, ownFits, item, opened, openDisk, asked, at, grantedAtOnce, decided, claim}
 use Rattle.law.specs.Events.{NoneHolds}
 use Rattle.law.specs.Sound.{Passes, Sound}
 use Rattle.law.specs.SoundTest.{unrefused}
@@ -26,7 +26,7 @@ use Rattle.law.specs.DiskType.{diskTable}
 use Rattle.claims.specs.RowLaws.{row-none}
 use Rattle.lock.specs.Methods.{isReading, writtenBy}
 use Rattle.rules.specs.Disks.{figuresIn, diskOf, Good}
-use Rattle.rules.specs.Answers.{valueBy, firstNumber, firstRules, coreAt, TakesGrant, grantedOf, waitingOf, emptyOf}
+use Rattle.rules.specs.Answers.{valueBy, shownBy, firstNumber, firstRules, coreAt, TakesGrant, grantedOf, waitingOf, emptyOf}
 use Rattle.rules.specs.declared.disk.Disk.{Disk}
 use Rattle.rules.proofs.RangeLaws.{limit-most, error-most, limit-range, tell-range}
 
@@ -198,7 +198,8 @@ module _ (d : LawDisk) (q : LawAsked) where
     claim-rest : claim diskTable d q ≡ unless (full ∷ []) (decided diskTable d q)
     claim-rest = claim-is ∙ unless-rest rules (full ∷ []) (decided diskTable d q) none
 
-    pub claim-granted : grantedAtOnce diskTable d q ≡ true → claim diskTable d q ≡ grantedOf d (q .now) (asked d q)
+    pub claim-granted : grantedAtOnce diskTable d q ≡ true →
+        claim diskTable d q ≡ accepted (grantedOf d (q .now) (asked d q)) (grantItem diskTable (at d (q .now)) (asked d q) ∷ [])
     unfolding full grantedOf
     claim-granted g = claim-rest ∙ rw g
 
@@ -207,7 +208,7 @@ module _ (d : LawDisk) (q : LawAsked) where
     claim-full g h = claim-rest ∙ rw (g, le-leb places (length (d .waiting)) h)
 
     pub claim-waits : grantedAtOnce diskTable d q ≡ false → length (d .waiting) < places →
-        claim diskTable d q ≡ waitingOf d (q .now) (asked d q)
+        claim diskTable d q ≡ accepted (waitingOf d (q .now) (asked d q)) (item 1 (d .next) ∷ [])
     unfolding full waitingOf
     claim-waits g h = claim-rest ∙ rw (g, lt-leb places (length (d .waiting)) h)
 
@@ -220,6 +221,56 @@ module _ (d : LawDisk) (q : LawAsked) where
     asked-passes =
         unrefused diskTable (d .core .figures) (q .now) (asked d q) .0
         (none .1 .0, (none .1 .1 .0, (none .1 .1 .1 .0, tt)))
+
+-- ---- what the answer of a claim says of its outcome
+
+-- A number that is not 0 is the refusal's.
+pub shown-refused : (o : Outcome) → (shownBy o .refusal ≡ 0 → ⊥) → o ≡ refused (shownBy o .refusal)
+shown-refused (refused n) h = refl
+shown-refused (accepted e []) h = absurd (h refl)
+shown-refused (accepted e (i ∷ items)) h = absurd (h refl)
+
+module _ (d : LawDisk) (q : LawAsked) (z : shownBy (claim diskTable d q) .refusal ≡ 0) where
+  -- No test refuses.
+  pub shown-passed : firstNumber (rules d q) ≡ 0
+  shown-passed = go (eqb (firstNumber (rules d q)) 0) refl
+    where
+      go : (b : Bool) → eqb (firstNumber (rules d q)) 0 ≡ b → firstNumber (rules d q) ≡ 0
+      go true e = eqb-true (firstNumber (rules d q)) 0 e
+      go false e = sym (ap (λ (o : Outcome). shownBy o .refusal) (claim-refused d q (eqb-false (firstNumber (rules d q)) 0 e))) ∙ z
+
+  -- The code 0 is a grant's.
+  pub shown-granted : shownBy (claim diskTable d q) .own .code ≡ 0 → grantedAtOnce diskTable d q ≡ true
+  shown-granted y = go (grantedAtOnce diskTable d q) refl (leb places (length (d .waiting))) refl
+    where
+      go : (b : Bool) → grantedAtOnce diskTable d q ≡ b → (f : Bool) → leb places (length (d .waiting)) ≡ f → grantedAtOnce diskTable d q ≡ true
+      go true g f e = g
+      go false g true e =
+          let o : claim diskTable d q ≡ refused 20 = claim-full d q shown-passed g (leb-true places (length (d .waiting)) e) in
+          absurd (omega (arith, z, ap (λ (o : Outcome). shownBy o .refusal) o))
+      go false g false e =
+          let o : claim diskTable d q ≡ accepted (waitingOf d (q .now) (asked d q)) (item 1 (d .next) ∷ []) =
+          claim-waits d q shown-passed g (leb-false places (length (d .waiting)) e) in
+          absurd (omega (arith, y, ap (λ (o : Outcome). shownBy o .own .code) o))
+
+  -- Any other is that of a claim that waits.
+  module _ (y : shownBy (claim diskTable d q) .own .code ≡ 0 → ⊥) where
+    pub shown-later : grantedAtOnce diskTable d q ≡ false
+    unfolding grantItem
+    shown-later = go (grantedAtOnce diskTable d q) refl
+      where
+        go : (b : Bool) → grantedAtOnce diskTable d q ≡ b → grantedAtOnce diskTable d q ≡ false
+        go false g = g
+        go true g = absurd (y (ap (λ (o : Outcome). shownBy o .own .code) (claim-granted d q shown-passed g)))
+
+    pub shown-place : length (d .waiting) < places
+    shown-place = go (leb places (length (d .waiting))) refl
+      where
+        go : (f : Bool) → leb places (length (d .waiting)) ≡ f → length (d .waiting) < places
+        go false e = leb-false places (length (d .waiting)) e
+        go true e =
+            let o : claim diskTable d q ≡ refused 20 = claim-full d q shown-passed shown-later (leb-true places (length (d .waiting)) e) in
+            absurd (omega (arith, z, ap (λ (o : Outcome). shownBy o .refusal) o))
 
 pub takes-grant : (d : Disk) (q : LawAsked) (sum : ℕ) → Good d → Sound diskTable (diskOf d) →
     firstNumber (firstRules (figuresIn d) (d .clock) (q .now) (asked (diskOf d) q)) ≡ 0 → grantedAtOnce diskTable (diskOf d) q ≡ true →

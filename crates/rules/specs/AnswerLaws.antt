@@ -1,12 +1,12 @@
 -- Laws of answers: a call keeps the disk good and sound, and its promise admits one result only.
-use Prim.Native.Nat.{ℕ, _≤_, _<_}
+use Prim.Native.Nat.{ℕ, _+_, _-_, _≤_, _<_}
 use mathlib.Core.Bool.{Bool, true, false, cond, not}
-use mathlib.Core.List.{List, [], _∷_}
+use mathlib.Core.List.{List, [], _∷_, _++_}
 use mathlib.Core.Path.{_≡_, refl, sym, ap, _∙_}
 use native.Mathlib.Omega.{arith}
 use lib.Dec.{leb, ltb}
-use lib.ListN.{length, take, getD}
-use lib.Seq.{getD-take, ext-getD}
+use lib.ListN.{length, take, getD, replicate, length-append, length-replicate, getD-replicate, List·getD-append, List·getD-eq-default}
+use lib.Seq.{getD-take, getD-append-add, ext-getD}
 use borrow.Author.Tests.{ltb-true, ltb-false}
 use Rattle.law.specs.declared.Claim.{Claim}
 use Rattle.law.specs.Base.{allTrue}
@@ -16,12 +16,12 @@ use Rattle.law.specs.Sound.{Sound}
 use Rattle.law.specs.Events.{After}
 use Rattle.law.specs.SoundKept.{sound-open}
 use Rattle.law.specs.DiskType.{diskTable}
-use Rattle.claims.specs.Rows.{Row}
+use Rattle.claims.specs.Rows.{Row, noClaim}
 use Rattle.claims.specs.RowLaws.{row-length, row-one}
 use Rattle.rules.specs.declared.disk.Disk.{Disk}
 use Rattle.rules.specs.declared.disk.Item.{Item}
 use Rattle.rules.specs.declared.calls.Answered.{Answered}
-use Rattle.rules.specs.Disks.{diskOf, Good, DiskIs}
+use Rattle.rules.specs.Disks.{diskOf, Good, DiskIs, padded, byValue}
 use Rattle.rules.specs.Answers.{noItem, ItemsAre, PassedIs, Answers, noDisk}
 
 -- ---- a call keeps the disk good and sound
@@ -98,6 +98,49 @@ disk-one {d} {e} {f} x y =
     (row-same (g .active) (h .active) act)
     ∙ ap (λ (l : List Claim). partsOf (diskOf e) (e .actives) (e .waitings) (e .active) l)
     (row-same (g .waiting) (h .waiting) wait)
+
+-- An array is its claims, and clear places behind them.
+row-padded : {a : List Claim} {n : ℕ} {l : List Claim} → Row a n → take n a ≡ l → a ≡ padded l
+row-padded {a} {n} {l} r e =
+    ext-getD noClaim a (padded l)
+    (omega (arith, r .room, r .few, k, length-append l (replicate (8 - length l) noClaim), length-replicate (8 - length l) noClaim))
+    (λ i h. go i (ltb i n) refl)
+  where
+    k : length l ≡ n
+    k = sym (ap length e) ∙ row-length r
+
+    go : (i : ℕ) (b : Bool) → ltb i n ≡ b → getD a i noClaim ≡ getD (padded l) i noClaim
+    go i true w =
+        let h : i < n = ltb-true i n w in
+        sym (getD-take n a i noClaim h)
+        ∙ ap (λ (s : List Claim). getD s i noClaim) e
+        ∙ sym (List·getD-append l (replicate (8 - length l) noClaim) noClaim i (omega (arith, k)))
+    go i false w =
+        let h : n ≤ i = ltb-false i n w in
+        let j : i ≡ length l + (i - length l) = omega (arith, k) in
+        r .clear i h
+        ∙ sym (rest (i - length l) (ltb (i - length l) (8 - length l)) refl)
+        ∙ sym (getD-append-add l (replicate (8 - length l) noClaim) (i - length l) noClaim)
+        ∙ ap (λ (m : ℕ). getD (padded l) m noClaim) (sym j)
+      where
+        rest : (m : ℕ) (b : Bool) → ltb m (8 - length l) ≡ b → getD (replicate (8 - length l) noClaim) m noClaim ≡ noClaim
+        rest m true w = getD-replicate (8 - length l) m noClaim noClaim (ltb-true m (8 - length l) w)
+        rest m false w =
+            List·getD-eq-default (replicate (8 - length l) noClaim) noClaim {n = m}
+            (omega (arith, ltb-false m (8 - length l) w, length-replicate (8 - length l) noClaim))
+
+-- What stands for a disk of the law is its disk by value.
+pub by-value : {e : Disk} {f : LawDisk} → DiskIs e f → e ≡ byValue f
+unfolding byValue
+by-value {e} {f} x =
+    let g = x .good in
+    let act : take (e .actives) (e .active) ≡ f .core .active = ap (λ (l : LawDisk). l .core .active) (x .is) in
+    let wait : take (e .waitings) (e .waiting) ≡ f .waiting = ap (λ (l : LawDisk). l .waiting) (x .is) in
+    ap (λ (l : LawDisk). partsOf l (e .actives) (e .waitings) (e .active) (e .waiting)) (x .is)
+    ∙ ap (λ (k : ℕ). partsOf f k (e .waitings) (e .active) (e .waiting)) (sym (row-length (g .active)) ∙ ap length act)
+    ∙ ap (λ (k : ℕ). partsOf f (length (f .core .active)) k (e .active) (e .waiting)) (sym (row-length (g .waiting)) ∙ ap length wait)
+    ∙ ap (λ (l : List Claim). partsOf f (length (f .core .active)) (length (f .waiting)) l (e .waiting)) (row-padded (g .active) act)
+    ∙ ap (λ (l : List Claim). partsOf f (length (f .core .active)) (length (f .waiting)) (padded (f .core .active)) l) (row-padded (g .waiting) wait)
 
 -- A list of items has one array, and one count.
 pub items-one : {a b : List Item} {n m : ℕ} {l : List LawItem} → ItemsAre a n l → ItemsAre b m l → (a ≡ b) × (n ≡ m)

@@ -18,6 +18,7 @@ use Rattle.law.specs.DiskType.{diskTable}
 use Rattle.rules.specs.declared.disk.Disk.{Disk}
 use Rattle.rules.specs.declared.disk.Item.{Item}
 use Rattle.rules.specs.declared.disk.Asked.{Asked}
+use Rattle.rules.specs.declared.calls.Judgement.{Judgement}
 use Rattle.lock.specs.Loops.{coreOf}
 use Rattle.rules.specs.Disks.{figuresIn, Good, DiskIs, TellFits}
 
@@ -65,6 +66,12 @@ Answers d number e own a n (accepted f (i ∷ items)) =
 
 -- ---- claim
 
+-- What an outcome shows without the disk: the refusal's number or 0, and the call's own item.
+abbrev pub shownBy : Outcome → Judgement
+shownBy (refused n) = record { refusal = n; own = noItem }
+shownBy (accepted e []) = record { refusal = 0; own = noItem }
+shownBy (accepted e (i ∷ items)) = record { refusal = 0; own = shown i }
+
 -- The value that a write of a kind brings is in range.
 abbrev pub valueBy : Kind → ℤ → Bool
 valueBy (sets a) z = valueFits a z
@@ -96,19 +103,13 @@ pub record TakesGrant (d : Disk) (now : ℕ) (c : Claim) (sum : ℕ) : Type 0 wh
   pub few : sum ≤ mostError
   pub ticket : c .ticket ≤ lastTicket
 
--- The claim c granted at second now.
-unfoldable pub grantedOf : LawDisk → ℕ → Claim → Outcome
-grantedOf e now c =
-    accepted
-    (record { core = grant diskTable (setClock now (e .core)) c; waiting = e .waiting; next = c .ticket + 1 })
-    (grantItem diskTable (setClock now (e .core)) c ∷ [])
+-- The disk with the claim c granted at second now.
+unfoldable pub grantedOf : LawDisk → ℕ → Claim → LawDisk
+grantedOf e now c = record { core = grant diskTable (setClock now (e .core)) c; waiting = e .waiting; next = c .ticket + 1 }
 
--- The claim c waiting from second now on.
-unfoldable pub waitingOf : LawDisk → ℕ → Claim → Outcome
-waitingOf e now c =
-    accepted
-    (record { core = setClock now (e .core); waiting = queue c (e .waiting); next = c .ticket + 1 })
-    (item 1 (c .ticket) ∷ [])
+-- The disk with the claim c waiting from second now on.
+unfoldable pub waitingOf : LawDisk → ℕ → Claim → LawDisk
+waitingOf e now c = record { core = setClock now (e .core); waiting = queue c (e .waiting); next = c .ticket + 1 }
 
 -- ---- release
 

@@ -9,7 +9,8 @@ ghost use Rattle.law.specs.Calls.{newAttr, openDisk, claim as lawClaim, release
 ghost use Rattle.law.specs.Sound.{Sound};
 ghost use Rattle.law.specs.DiskType.{diskTable};
 ghost use Rattle.rules.specs.Disks.{diskOf, Good, DiskIs, LandFits};
-ghost use Rattle.rules.specs.Answers.{askedOf, Answers, TakesGrant, grantedOf, waitingOf, endedAt, leftAt, released, emptyOf, noDisk};
+ghost use mathlib.Core.List.{[]};
+ghost use Rattle.rules.specs.Answers.{askedOf, shownBy, ItemsAre, Answers, TakesGrant, grantedOf, waitingOf, endedAt, leftAt, released, emptyOf, noDisk};
 use crate::disk::Asked;
 use crate::disk::Disk;
 use crate::disk::Item;
@@ -57,7 +58,7 @@ pub fn refused(d: Disk, number: u32) -> Answered
 }
 
 // The claim that is asked for, with the ticket that it would take.
-fn asked(q: Asked, ticket: u32) -> Claim
+pub fn asked(q: Asked, ticket: u32) -> Claim
     ensures { λ r. ⌜ r ≡ claimOf (askedOf q) ticket ⌝ }
 {
     Claim {
@@ -154,69 +155,27 @@ pub fn release(d: Disk, now: u32, ticket: u32) -> Answered
     refused(d, 21)
 }
 
-// The disk with the claim c granted at second now, and the answer of that grant.
-fn granting(d: Disk, now: u32, c: Claim, total: u64) -> Answered
-    requires { ⌜ TakesGrant d now c total ⌝ }
-    ensures { λ r. ⌜ Answers d (r .refusal) (r .disk) (r .own) (r .items) (r .count) (grantedOf (diskOf d) now c) ⌝ }
+// What a call answers, without its disk: the refusal's number or 0, and the call's own item.
+pub struct Judgement {
+    pub refusal: u32,
+    pub own: Item,
+}
+
+// A refused judgement.
+fn unjudged(number: u32) -> Judgement
+    ensures { λ r. ⌜ r ≡ shownBy (lawRefused number) ⌝ }
 {
-    let none = no_item();
-    let used = d.used;
-    let promised = d.promised;
-    let state = d.state;
-    let present = narrow(told(c.method, used, promised, state));
-    let mut f = d;
-    f.clock = now;
-    f.next = c.ticket + 1;
-    let disk = grant(f, c, total);
-    Answered {
-        refusal: 0,
-        disk,
-        own: Item {
-            code: 0,
-            ticket: c.ticket,
-            told: present,
-            amount: total as u32,
-        },
-        items: [none; 8],
-        count: 0,
+    Judgement {
+        refusal: number,
+        own: no_item(),
     }
 }
 
-// The disk with the claim c waiting from second now on, and the answer of that.
-fn waits(d: Disk, now: u32, c: Claim) -> Answered
-    requires { ⌜ Good d ⌝ }
-    requires { ⌜ d .waitings < 8 ⌝ }
-    requires { ⌜ c .ticket ≤ 999_999 ⌝ }
-    ensures { λ r. ⌜ Answers d (r .refusal) (r .disk) (r .own) (r .items) (r .count) (waitingOf (diskOf d) now c) ⌝ }
-{
-    let none = no_item();
-    let waiting = d.waiting;
-    let n = d.waitings;
-    let mut e = d;
-    e.clock = now;
-    let more = queued(waiting, n as usize, c);
-    e.waiting = more;
-    e.waitings = n + 1;
-    e.next = c.ticket + 1;
-    Answered {
-        refusal: 0,
-        disk: e,
-        own: Item {
-            code: 1,
-            ticket: c.ticket,
-            told: 0,
-            amount: 0,
-        },
-        items: [none; 8],
-        count: 0,
-    }
-}
-
-// A claim on a disk, as the law decides it.
-pub fn claim(d: Disk, q: Asked) -> Answered
+// What a claim on a disk comes to: nothing is changed yet.
+pub fn judged(d: Disk, q: Asked) -> Judgement
     requires { ⌜ Good d ⌝ }
     requires { ⌜ Sound diskTable (diskOf d) ⌝ }
-    ensures { λ r. ⌜ Answers d (r .refusal) (r .disk) (r .own) (r .items) (r .count) (lawClaim diskTable (diskOf d) (askedOf q)) ⌝ }
+    ensures { λ r. ⌜ r ≡ shownBy (lawClaim diskTable (diskOf d) (askedOf q)) ⌝ }
 {
     let now = q.now;
     let c = asked(q, d.next);
@@ -225,7 +184,7 @@ pub fn claim(d: Disk, q: Asked) -> Answered
     let state = d.state;
     let number = checked(c, now, d.clock, used, promised, state);
     if number != 0 {
-        return refused(d, number);
+        return unjudged(number);
     }
     let active = d.active;
     let waiting = d.waiting;
@@ -241,12 +200,90 @@ pub fn claim(d: Disk, q: Asked) -> Answered
         state,
     );
     if verdict.ok {
-        return granting(d, now, c, verdict.total);
+        let present = narrow(told(c.method, used, promised, state));
+        return Judgement {
+            refusal: 0,
+            own: Item {
+                code: 0,
+                ticket: d.next,
+                told: present,
+                amount: verdict.total as u32,
+            },
+        };
     }
     if PLACES <= d.waitings {
-        return refused(d, 20);
+        return unjudged(20);
     }
-    waits(d, now, c)
+    Judgement {
+        refusal: 0,
+        own: Item {
+            code: 1,
+            ticket: d.next,
+            told: 0,
+            amount: 0,
+        },
+    }
+}
+
+// The disk with the claim c granted at second now, whose total has been judged.
+pub fn granting(d: Disk, now: u32, c: Claim, total: u32) -> Disk
+    requires { ⌜ TakesGrant d now c total ⌝ }
+    ensures { λ r. ⌜ DiskIs r (grantedOf (diskOf d) now c) ⌝ }
+{
+    let mut f = d;
+    f.clock = now;
+    f.next = c.ticket + 1;
+    grant(f, c, total as u64)
+}
+
+// The disk with the claim c waiting from second now on.
+pub fn waits(d: Disk, now: u32, c: Claim) -> Disk
+    requires { ⌜ Good d ⌝ }
+    requires { ⌜ d .waitings < 8 ⌝ }
+    requires { ⌜ c .ticket ≤ 999_999 ⌝ }
+    ensures { λ r. ⌜ DiskIs r (waitingOf (diskOf d) now c) ⌝ }
+{
+    let waiting = d.waiting;
+    let n = d.waitings;
+    let mut e = d;
+    e.clock = now;
+    let more = queued(waiting, n as usize, c);
+    e.waiting = more;
+    e.waitings = n + 1;
+    e.next = c.ticket + 1;
+    e
+}
+
+// An accepted call without a pass.
+fn accepted(d: Disk, own: Item) -> Answered
+    ensures { λ r. ⌜ (r .refusal ≡ 0) × (r .disk ≡ d) × (r .own ≡ own) × ItemsAre (r .items) (r .count) [] ⌝ }
+{
+    let none = no_item();
+    Answered {
+        refusal: 0,
+        disk: d,
+        own,
+        items: [none; 8],
+        count: 0,
+    }
+}
+
+// A claim on a disk, as the law decides it.
+pub fn claim(d: Disk, q: Asked) -> Answered
+    requires { ⌜ Good d ⌝ }
+    requires { ⌜ Sound diskTable (diskOf d) ⌝ }
+    ensures { λ r. ⌜ Answers d (r .refusal) (r .disk) (r .own) (r .items) (r .count) (lawClaim diskTable (diskOf d) (askedOf q)) ⌝ }
+{
+    let j = judged(d, q);
+    let own = j.own;
+    if j.refusal != 0 {
+        return refused(d, j.refusal);
+    }
+    let c = asked(q, d.next);
+    if own.code == 0 {
+        return accepted(granting(d, q.now, c, own.amount), own);
+    }
+    accepted(waits(d, q.now, c), own)
 }
 
 // A figure of an empty disk.
@@ -289,17 +326,13 @@ pub fn open(now: u32, l0: u32, l1: u32) -> Answered
     if MOST_ERROR < l1 {
         return refused(empty(0, 0, 0, 0), 17);
     }
-    let none = no_item();
-    Answered {
-        refusal: 0,
-        disk: empty(now, l0, l1, 1),
-        own: Item {
+    accepted(
+        empty(now, l0, l1, 1),
+        Item {
             code: 3,
             ticket: 0,
             told: 0,
             amount: 0,
         },
-        items: [none; 8],
-        count: 0,
-    }
+    )
 }

@@ -1,129 +1,136 @@
--- The tests before the decision name the law's refusal. Past them the decision, and whether there is a place to wait, say
--- which of the law's outcomes it is.
+-- What is judged says which of the law's outcomes it is; the disk is that outcome's.
+use mathlib.Core.List.{[], _∷_}
 use mathlib.Core.Path.{_≡_, sym, ap, _∙_}
 use native.Mathlib.Omega.{arith}
 use borrow.Author.Needs.{needs}
 use Rattle.claims.specs.RowLaws.{row-length}
-use Rattle.law.specs.Types.{refused}
-use Rattle.law.specs.Calls.{asked, grantedAtOnce}
+use Rattle.law.specs.Granting.{grantItem}
+use Rattle.law.specs.Types.{Asked as LawAsked, Outcome, refused, accepted}
+use Rattle.law.specs.Calls.{asked, at, claim}
 use Rattle.law.specs.DiskType.{diskTable}
-use Rattle.rules.specs.Answers.{askedOf, firstNumber, firstRules}
-use Rattle.rules.specs.Disks.{figuresIn, diskOf}
-use Rattle.rules.proofs.CallLaws.{claim-refused, claim-granted, claim-full, claim-waits, ticket-fits, takes-grant}
+use Rattle.rules.specs.declared.disk.Disk.{Disk}
+use Rattle.rules.specs.declared.calls.Judgement.{Judgement}
+use Rattle.rules.specs.Answers.{askedOf, shownBy, TakesGrant, grantedOf}
+use Rattle.rules.specs.Disks.{diskOf}
+use Rattle.rules.proofs.CallLaws.{claim-granted, claim-waits, shown-refused, shown-passed, shown-granted, shown-later, shown-place, ticket-fits, takes-grant}
 use Rattle.rules.proofs.calls.claim.Statement.{statement}
 use Rattle.rules.proofs.calls.claim.Tie as tie
 
-abbrev start : tie.After-checked → tie.Start
-start k = k .before .before .before .before .before
+-- The law's outcome.
+abbrev law : tie.After-judged → Outcome
+law k = claim diskTable (diskOf (k .before .args .d)) (askedOf (k .before .args .q))
 
--- The number is that of the law's rules for the claim asked.
-number : (k : tie.After-checked) →
-    k .checked .result
-    ≡ firstNumber
-    (firstRules (figuresIn (start k .args .d)) (start k .args .d .clock) (start k .args .q .now)
-    (asked (diskOf (start k .args .d)) (askedOf (start k .args .q))))
-number k = rw (k .before .before .before .before .asked .ensures) at (k .checked .ensures)
+-- Nothing refuses.
+accepts : (c : tie.Else1) → shownBy (law (c .before .before .before)) .refusal ≡ 0
+accepts c = sym (ap (λ (j : Judgement). j .refusal) (c .before .before .before .judged .ensures)) ∙ c .if1 .left
 
-abbrev tests : tie.After-decide → tie.After-checked
-tests k = k .before .before .before .before .before .before
+-- The branch of the decision.
+abbrev taken : tie.After-struct-known2 → tie.Else1
+taken c = c .before .before
 
--- The decision is the law's.
-decision : (k : tie.After-decide) →
-    k .decide .result .ok ≡ grantedAtOnce diskTable (diskOf (start (tests k) .args .d)) (askedOf (start (tests k) .args .q))
-decision k = rw (tests k .before .before .before .before .asked .ensures) at (k .decide .ensures .says)
+code : (c : tie.After-struct-known2) →
+    taken c .before .before .before .judged .result .own .code ≡ shownBy (law (taken c .before .before .before)) .own .code
+code c = ap (λ (j : Judgement). j .own .code) (taken c .before .before .before .judged .ensures)
 
--- No test refuses.
-passed : (k : tie.After-decide) →
-    firstNumber
-    (firstRules (figuresIn (start (tests k) .args .d)) (start (tests k) .args .d .clock) (start (tests k) .args .q .now)
-    (asked (diskOf (start (tests k) .args .d)) (askedOf (start (tests k) .args .q))))
-    ≡ 0
-passed k = sym (number (tests k)) ∙ k .before .before .before .before .before .if1 .left
+module _ (c : tie.Then2) where
+  abbrev k : tie.After-judged
+  k = taken (c .before) .before .before .before
 
-asked-requires : tie.Need-asked-requires
-asked-requires c κs = search needs
+  abbrev d : Disk
+  d = k .before .args .d
 
-checked-requires : tie.Need-checked-requires
-checked-requires c κs = search needs
+  abbrev q : LawAsked
+  q = askedOf (k .before .args .q)
+
+  granted-outcome : law k ≡ accepted (grantedOf (diskOf d) (q .now) (asked (diskOf d) q)) (grantItem diskTable (at (diskOf d) (q .now)) (asked (diskOf d) q) ∷ [])
+  granted-outcome =
+      claim-granted (diskOf d) q (shown-passed (diskOf d) q (accepts (taken (c .before))))
+      (shown-granted (diskOf d) q (accepts (taken (c .before))) (sym (code (c .before)) ∙ c .if2 .taken))
+
+  granted-takes : TakesGrant d (q .now) (asked (diskOf d) q) (k .judged .result .own .amount)
+  unfolding grantItem
+  granted-takes =
+      takes-grant d q (k .judged .result .own .amount) (k .before .pre .0) (k .before .pre .1)
+      (shown-passed (diskOf d) q (accepts (taken (c .before))))
+      (shown-granted (diskOf d) q (accepts (taken (c .before))) (sym (code (c .before)) ∙ c .if2 .taken))
+      (ap (λ (j : Judgement). j .own .amount) (k .judged .ensures ∙ ap shownBy granted-outcome))
+
+judged-requires : tie.Need-judged-requires
+judged-requires c κs = search needs
 
 refused-requires : tie.Need-refused-requires
 refused-requires c κs = search needs
 
 returns : tie.Need-returns
 returns c =
-    let k = c .before .before in
-    let a = start k .args in
-    rw
-    (claim-refused (diskOf (a .d)) (askedOf (a .q)) (λ z. c .before .if1 .taken (number k ∙ z)) ∙ ap refused (sym (number k)))
-    (c .refused .ensures)
+    let k = c .before .before .before .before in
+    let n = ap (λ (j : Judgement). j .refusal) (k .judged .ensures) in
+    rw (shown-refused (law k) (λ z. c .before .if1 .taken (n ∙ z)) ∙ ap refused (sym n)) (c .refused .ensures)
 
-cast-decide : tie.Need-cast-decide
-cast-decide c = search needs
-
-cast-decide-2 : tie.Need-cast-decide-2
-cast-decide-2 c = search needs
-
-decide-requires : tie.Need-decide-requires
-decide-requires c κs = search needs
+asked-requires : tie.Need-asked-requires
+asked-requires c κs = search needs
 
 granting-requires : tie.Need-granting-requires
-granting-requires c κs =
-    let k = c .before in
-    let s = start (tests k) in
-    let e = tests k .before .before .before .before .asked .ensures in
-    rw e
-    (takes-grant (s .args .d) (askedOf (s .args .q)) (k .decide .result .total) (s .pre .0) (s .pre .1) (passed k)
-    (sym (decision k) ∙ c .if2 .taken) (rw e at (k .decide .ensures .counts (c .if2 .taken))))
+granting-requires c κs = rw (c .before .before .asked .ensures) (granted-takes c)
+
+accepted-requires : tie.Need-accepted-requires
+accepted-requires c κs = search needs
 
 returns-2 : tie.Need-returns-2
 returns-2 c =
-    let k = c .before .before in
-    let a = start (tests k) .args in
-    rw (claim-granted (diskOf (a .d)) (askedOf (a .q)) (passed k) (sym (decision k) ∙ c .before .if2 .taken))
-    (rw (tests k .before .before .before .before .asked .ensures) at (c .granting .ensures))
-
-refused-requires-2 : tie.Need-refused-requires-2
-refused-requires-2 c κs = search needs
-
-returns-3 : tie.Need-returns-3
-returns-3 c =
-    let k = c .before .before .before .before in
-    let s = start (tests k) in
-    rw
-    (claim-full (diskOf (s .args .d)) (askedOf (s .args .q)) (passed k) (sym (decision k) ∙ c .before .before .before .if2 .left)
-    (omega (arith, c .before .if3 .taken, row-length (s .pre .0 .waiting))))
-    (c .refused2 .ensures)
+    let t = c .before .before in
+    let e = c .accepted .ensures in
+    rw (granted-outcome t) (
+      e .0,
+      rw (e .1) (rw (t .before .before .asked .ensures) at (c .before .granting .ensures)),
+      e .2 ∙ ap (λ (j : Judgement). j .own) (k t .judged .ensures ∙ ap shownBy (granted-outcome t)),
+      e .3,
+    )
 
 waits-requires : tie.Need-waits-requires
 waits-requires c κs =
-    let k = c .before .before .before in
-    let s = start (tests k) in
-    rw (tests k .before .before .before .before .asked .ensures)
-    (s .pre .0, (c .if3 .left, ticket-fits (diskOf (s .args .d)) (askedOf (s .args .q)) (passed k)))
+    let u = taken (c .before) in
+    let s = u .before .before .before .before in
+    let y : (shownBy (law (u .before .before .before)) .own .code ≡ 0 → ⊥) = λ e. c .if2 .left (code (c .before) ∙ e) in
+    rw (c .before .before .asked .ensures) (
+      s .pre .0,
+      (
+        omega (arith, shown-place (diskOf (s .args .d)) (askedOf (s .args .q)) (accepts u) y, row-length (s .pre .0 .waiting)),
+        ticket-fits (diskOf (s .args .d)) (askedOf (s .args .q)) (shown-passed (diskOf (s .args .d)) (askedOf (s .args .q)) (accepts u)),
+      ),
+    )
 
-returns-4 : tie.Need-returns-4
-returns-4 c =
-    let k = c .before .before .before .before in
-    let s = start (tests k) in
-    rw
-    (claim-waits (diskOf (s .args .d)) (askedOf (s .args .q)) (passed k) (sym (decision k) ∙ c .before .before .before .if2 .left)
-    (omega (arith, c .before .if3 .left, row-length (s .pre .0 .waiting))))
-    (rw (tests k .before .before .before .before .asked .ensures) at (c .waits .ensures))
+accepted-requires-2 : tie.Need-accepted-requires-2
+accepted-requires-2 c κs = search needs
+
+returns-3 : tie.Need-returns-3
+returns-3 c =
+    let t = c .before .before in
+    let u = taken (t .before) in
+    let s = u .before .before .before .before in
+    let l = diskOf (s .args .d) in
+    let q = askedOf (s .args .q) in
+    let y : (shownBy (law (u .before .before .before)) .own .code ≡ 0 → ⊥) = λ e. t .if2 .left (code (t .before) ∙ e) in
+    let o = claim-waits l q (shown-passed l q (accepts u)) (shown-later l q (accepts u) y) (shown-place l q (accepts u) y) in
+    let e = c .accepted2 .ensures in
+    rw o (
+      e .0,
+      rw (e .1) (rw (t .before .before .asked .ensures) at (c .before .waits .ensures)),
+      e .2 ∙ ap (λ (j : Judgement). j .own) (u .before .before .before .judged .ensures ∙ ap shownBy o),
+      e .3,
+    )
 
 pub claim-spec : {M : Type 1} → statement M
 claim-spec =
     tie.close
     (tie.spec
-    asked-requires
-    checked-requires
+    judged-requires
     refused-requires
     returns
-    cast-decide
-    cast-decide-2
-    decide-requires
+    asked-requires
     granting-requires
+    accepted-requires
     returns-2
-    refused-requires-2
-    returns-3
     waits-requires
-    returns-4)
+    accepted-requires-2
+    returns-3)

@@ -2,7 +2,6 @@
 use mathlib.Core.Path.{refl}
 use borrow.Author.Needs.{needs}
 use Rattle.law.specs.Calls.{opened}
-use Rattle.rules.proofs.ItemLaws.{items-none}
 use Rattle.rules.proofs.CallLaws.{open-over-0, open-over-1, open-fits, empty-good}
 use Rattle.rules.proofs.calls.open.Statement.{statement}
 use Rattle.rules.proofs.calls.open.Tie as tie
@@ -30,19 +29,20 @@ returns-2 c =
     let a = o .before .before .args in
     rw (open-over-1 (a .now) (a .l0) (a .l1) (o .before .if1 .left) (o .if2 .taken)) (rw (c .before .empty2 .ensures) at (c .refused2 .ensures))
 
-no-item-requires : tie.Need-no-item-requires
-no-item-requires c κs = search needs
-
 empty-requires-3 : tie.Need-empty-requires-3
 empty-requires-3 c κs = search needs
+
+accepted-requires : tie.Need-accepted-requires
+accepted-requires c κs = search needs
 
 returns-3 : tie.Need-returns-3
 unfolding opened
 returns-3 c =
     let o = c .before .before in
     let a = o .before .before .args in
-    rw (open-fits (a .now) (a .l0) (a .l1) (o .before .if1 .left) (o .if2 .left), c .empty3 .ensures, c .before .no-item .ensures)
-    (refl, record { good = empty-good (a .now) (a .l0) (a .l1) 1; is = refl }, refl, items-none)
+    let e = c .accepted .ensures in
+    rw (open-fits (a .now) (a .l0) (a .l1) (o .before .if1 .left) (o .if2 .left))
+    (e .0, rw (e .1, c .before .empty3 .ensures) (record { good = empty-good (a .now) (a .l0) (a .l1) 1; is = refl }), e .2, e .3)
 
 pub open-spec : {M : Type 1} → statement M
 open-spec =
@@ -54,6 +54,6 @@ open-spec =
     empty-requires-2
     refused-requires-2
     returns-2
-    no-item-requires
     empty-requires-3
+    accepted-requires
     returns-3)

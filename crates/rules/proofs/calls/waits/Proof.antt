@@ -1,13 +1,8 @@
 -- The row of waiting claims has the claim at its place.
-use mathlib.Core.Path.{refl}
 use borrow.Author.Needs.{needs}
 use Rattle.rules.specs.Answers.{waitingOf}
-use Rattle.rules.proofs.ItemLaws.{items-none}
 use Rattle.rules.proofs.calls.waits.Statement.{statement}
 use Rattle.rules.proofs.calls.waits.Tie as tie
-
-no-item-requires : tie.Need-no-item-requires
-no-item-requires c κs = search needs
 
 cast-queued : tie.Need-cast-queued
 cast-queued c = search needs
@@ -25,17 +20,10 @@ returns : tie.Need-returns
 unfolding waitingOf
 returns c =
     let q = c .before .queued .ensures in
-    let i = c .before .before .before in (
-      refl,
-      record {
-        good = record { active = i .before .pre .0 .active; waiting = q .row };
-        is = rw (q .list);
-      },
-      refl,
-      rw (i .no-item .ensures) items-none,
-    )
+    record {
+      good = record { active = c .before .before .before .pre .0 .active; waiting = q .row };
+      is = rw (q .list);
+    }
 
 pub waits-spec : {M : Type 1} → statement M
-waits-spec =
-    tie.close
-    (tie.spec no-item-requires cast-queued queued-requires add-e add-e-2 returns)
+waits-spec = tie.close (tie.spec cast-queued queued-requires add-e add-e-2 returns)
