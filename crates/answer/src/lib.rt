@@ -1,6 +1,17 @@
 // Answers and refusals as enums, and their items in the answer buffer. 01's number and values of each case are definitions
 // (specs/Answers), which the promises use.
 
+ghost use mathlib.Core.Path.{_≡_};
+ghost use mathlib.Core.List.{[], _∷_};
+ghost use Prim.Native.Nat.{_+_, _*_, _≤_, _<_};
+ghost use lib.ListN.{length, replicate};
+ghost use Rattle.num.specs.Runs.{flat, splice};
+ghost use Rattle.num.specs.Signed.{wordOf};
+ghost use Rattle.answer.specs.declared.Answer.the-variants.{Granted};
+ghost use Rattle.answer.specs.Answers.{numberOf, refusalOf, codeOf, ticketOf, toldOf, amountOf, itemBytes, answerBytes};
+use num::signed::to_word;
+use num::word::put_word;
+
 // The refusals, 9 to 21 in 01's order.
 pub enum Refusal {
     Length,
@@ -25,4 +36,143 @@ pub enum Answer {
     Released(u32),
     Opened,
     Refused(Refusal),
+}
+
+// 01's number of a refusal.
+pub fn number(r: Refusal) -> u32
+    ensures { λ n. ⌜ n ≡ numberOf r ⌝ }
+{
+    match r {
+        Refusal::Length => 9,
+        Refusal::Record => 10,
+        Refusal::Disk => 11,
+        Refusal::Open => 12,
+        Refusal::Closed => 13,
+        Refusal::Unsound => 14,
+        Refusal::Clock => 15,
+        Refusal::Method => 16,
+        Refusal::Field => 17,
+        Refusal::OwnError => 18,
+        Refusal::NoTicket => 19,
+        Refusal::Full => 20,
+        Refusal::Ticket => 21,
+    }
+}
+
+// The refusal of a number; of a number that no other has, 21's.
+pub fn refusal_of(number: u32) -> Refusal
+    ensures { λ r. ⌜ r ≡ refusalOf number ⌝ }
+{
+    match number {
+        9 => Refusal::Length,
+        10 => Refusal::Record,
+        11 => Refusal::Disk,
+        12 => Refusal::Open,
+        13 => Refusal::Closed,
+        14 => Refusal::Unsound,
+        15 => Refusal::Clock,
+        16 => Refusal::Method,
+        17 => Refusal::Field,
+        18 => Refusal::OwnError,
+        19 => Refusal::NoTicket,
+        20 => Refusal::Full,
+        _ => Refusal::Ticket,
+    }
+}
+
+// The code of an answer, which the call returns.
+pub fn code(a: Answer) -> u32
+    ensures { λ r. ⌜ r ≡ codeOf a ⌝ }
+{
+    match a {
+        Answer::Granted(_, _, _) => 0,
+        Answer::Waits(_) => 1,
+        Answer::Released(_) => 2,
+        Answer::Opened => 3,
+        Answer::Refused(r) => number(r),
+    }
+}
+
+// Makes the buffer an answer with no grant behind it.
+pub fn put_answer(out: &mut [u8], a: Answer)
+    requires { ⌜ length (now out) ≡ 144 ⌝ }
+    ensures { λ _. ⌜ now (out .exit) ≡ answerBytes a [] ⌝ }
+{
+    let n = code(a);
+    let t = ticket(a);
+    let z = told(a);
+    let m = amount(a);
+    clear(out);
+    put_item(out, 0, n, t, z, m);
+}
+
+// Puts a grant of the pass into the buffer, the k-th behind the call's own answer.
+pub fn put_grant(out: &mut [u8], k: usize, ticket: u32, told: i32, amount: u32)
+    requires { ⌜ length (now out) ≡ 144 ⌝ }
+    requires { ⌜ k < 8 ⌝ }
+    ensures { λ _. ⌜ now (out .exit) ≡ splice (now (out .entry)) (16 + 16 * k) (itemBytes (Granted ticket told amount)) ⌝ }
+{
+    put_item(out, 16 + 16 * k, 0, ticket, told, amount);
+}
+
+// The four figures of an item, one after the other.
+fn put_item(out: &mut [u8], at: usize, code: u32, ticket: u32, told: i32, amount: u32)
+    requires { ⌜ at + 16 ≤ length (now out) ⌝ }
+    ensures { λ _. ⌜ now (out .exit) ≡ splice (now (out .entry)) at (flat (code ∷ ticket ∷ wordOf told ∷ amount ∷ [])) ⌝ }
+{
+    put_word(out, at, code);
+    put_word(out, at + 4, ticket);
+    put_word(out, at + 8, to_word(told));
+    put_word(out, at + 12, amount);
+}
+
+// Makes every byte of the buffer zero.
+fn clear(out: &mut [u8])
+    requires { ⌜ length (now out) ≡ 144 ⌝ }
+    ensures { λ _. ⌜ now (out .exit) ≡ replicate 144 0 ⌝ }
+{
+    let mut i = 0;
+    while i < 144 {
+        out[i] = 0;
+        i += 1;
+    }
+}
+
+// The ticket of an answer; 0 of one that carries none.
+fn ticket(a: Answer) -> u32
+    ensures { λ r. ⌜ r ≡ ticketOf a ⌝ }
+{
+    match a {
+        Answer::Granted(t, _, _) => t,
+        Answer::Waits(t) => t,
+        Answer::Released(t) => t,
+        Answer::Opened => 0,
+        Answer::Refused(_) => 0,
+    }
+}
+
+// What an answer tells; 0 of all but a grant.
+fn told(a: Answer) -> i32
+    ensures { λ r. ⌜ r ≡ toldOf a ⌝ }
+{
+    match a {
+        Answer::Granted(_, z, _) => z,
+        Answer::Waits(_) => 0,
+        Answer::Released(_) => 0,
+        Answer::Opened => 0,
+        Answer::Refused(_) => 0,
+    }
+}
+
+// The amount of an answer; 0 of all but a grant.
+fn amount(a: Answer) -> u32
+    ensures { λ r. ⌜ r ≡ amountOf a ⌝ }
+{
+    match a {
+        Answer::Granted(_, _, m) => m,
+        Answer::Waits(_) => 0,
+        Answer::Released(_) => 0,
+        Answer::Opened => 0,
+        Answer::Refused(_) => 0,
+    }
 }

@@ -43,33 +43,42 @@ answerOf i =
     cond (eqb (i .code) 0) (A.Granted (i .ticket) (i .told) (i .amount))
     (cond (eqb (i .code) 1) (A.Waits (i .ticket)) (cond (eqb (i .code) 2) (A.Released (i .ticket)) A.Opened))
 
--- The call's own answer, and the grants of its pass. (Every accepted call has an item of its own.)
-abbrev pub ownOf : List Item → Answer
-ownOf [] = A.Opened
-ownOf (i ∷ items) = answerOf i
+-- What a call says: a refusal, or the items of the law, the call's own first, then the grants of its pass in order.
+pub data Said : Type 0 where
+  refuses : Refusal → Said
+  tells : List Item → Said
 
-abbrev pub grantsOf : List Item → List Answer
-grantsOf [] = []
-grantsOf (i ∷ items) = map answerOf items
+-- The call's own answer, and the grants of its pass. (Every accepted call has an item of its own.)
+abbrev pub ownOf : Said → Answer
+ownOf (refuses r) = A.Refused r
+ownOf (tells []) = A.Opened
+ownOf (tells (i ∷ items)) = answerOf i
+
+abbrev pub grantsOf : Said → List Answer
+grantsOf (refuses r) = []
+grantsOf (tells []) = []
+grantsOf (tells (i ∷ items)) = map answerOf items
 
 -- ---- what a call comes to
 
--- The bytes lent to be written, a part or the board, after the call; the call's own answer; the pass's grants in order.
+-- The bytes lent to be written, a part or the board, after the call; and what the call says.
 pub record Told : Type 0 where
   pub bytes : List ℕ
-  pub own : Answer
-  pub grants : List Answer
+  pub said : Said
+
+abbrev pub telling : List ℕ → Said → Told
+telling s m = record { bytes = s; said = m }
 
 -- A refusal leaves the bytes as they were.
 abbrev pub refusing : List ℕ → Refusal → Told
-refusing s r = record { bytes = s; own = A.Refused r; grants = [] }
+refusing s r = telling s (refuses r)
 
 -- ---- a call on the part of an open disk
 
 -- What the law's outcome comes to on a part.
 abbrev pub settled : List ℕ → Outcome → Told
 settled p (refused n) = refusing p (refusalOf n)
-settled p (accepted d items) = record { bytes = partFor d; own = ownOf items; grants = grantsOf items }
+settled p (accepted d items) = telling (partFor d) (tells items)
 
 unfoldable pub serveOf : List ℕ → Call → Told
 serveOf p k = cond (soundPart p) (settled p (answered diskTable (held p) k)) (refusing p R.Unsound)
@@ -78,12 +87,12 @@ serveOf p k = cond (soundPart p) (settled p (answered diskTable (held p) k)) (re
 
 -- Only the disk's own part is written.
 abbrev pub onPart : List ℕ → ℕ → Told → Told
-onPart b d t = record { bytes = withPart b d (t .bytes); own = t .own; grants = t .grants }
+onPart b d t = telling (withPart b d (t .bytes)) (t .said)
 
 -- An open also sets the disk's bit.
 abbrev pub opening : List ℕ → ℕ → Outcome → Told
 opening b d (refused n) = refusing b (refusalOf n)
-opening b d (accepted e items) = record { bytes = setOpen (withPart b d (partFor e)) d; own = ownOf items; grants = grantsOf items }
+opening b d (accepted e items) = telling (setOpen (withPart b d (partFor e)) d) (tells items)
 
 abbrev pub onDisk : List ℕ → List ℕ → ℕ → Told
 onDisk b r d =
@@ -108,7 +117,7 @@ stepped n s a = record { code = n; bytes = s; answer = a }
 
 -- All of the answer buffer is rewritten; the call returns the first item's code.
 abbrev pub written : Told → Stepped
-written t = stepped (codeOf (t .own)) (t .bytes) (answerBytes (t .own) (t .grants))
+written t = stepped (codeOf (ownOf (t .said))) (t .bytes) (answerBytes (ownOf (t .said)) (grantsOf (t .said)))
 
 -- 9 is returned alone: neither buffer is touched.
 unfoldable pub stepOf : List ℕ → List ℕ → List ℕ → Stepped
