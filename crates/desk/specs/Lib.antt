@@ -2,3 +2,6 @@
 pub mod Record
 pub mod Board
 pub mod Step
+pub mod Counts
+pub mod RangeLaws
+pub mod BoardLaws

@@ -3,6 +3,7 @@
 use Prim.Native.Nat.{ℕ}
 use mathlib.Core.Bool.{Bool, true, false, cond, _&&_}
 use mathlib.Core.List.{List, [], _∷_, map}
+use mathlib.Core.Path.{_≡_}
 use lib.Dec.{leb, eqb}
 use lib.ListN.{length}
 use Rattle.num.specs.Opened.{openAt, setOpen}
@@ -11,6 +12,7 @@ use Rattle.law.specs.Calls.{openDisk}
 use Rattle.law.specs.Sound.{sound}
 use Rattle.law.specs.History.{Call, answered}
 use Rattle.law.specs.DiskType.{diskTable}
+use Rattle.rules.specs.declared.disk.Item.{Item as CodeItem}
 use Rattle.rules.specs.Disks.{diskOf, byValue}
 use Rattle.part.specs.Layout.{decode, encode, decodes}
 use Rattle.answer.specs.declared.Answer.{Answer}
@@ -42,6 +44,14 @@ unfoldable pub answerOf : Item → Answer
 answerOf i =
     cond (eqb (i .code) 0) (A.Granted (i .ticket) (i .told) (i .amount))
     (cond (eqb (i .code) 1) (A.Waits (i .ticket)) (cond (eqb (i .code) 2) (A.Released (i .ticket)) A.Opened))
+
+-- The answer of a grant, by its item in code.
+abbrev pub grantOf : CodeItem → Answer
+grantOf i = A.Granted (i .ticket) (i .told) (i .amount)
+
+-- Where an answer stands alone in the buffer s, it stands with these grants behind it in t.
+abbrev pub Behind : List ℕ → List Answer → List ℕ → Type 0
+Behind s grants t = (own : Answer) → s ≡ answerBytes own [] → t ≡ answerBytes own grants
 
 -- What a call says: a refusal, or the items of the law, the call's own first, then the grants of its pass in order.
 pub data Said : Type 0 where
@@ -100,9 +110,13 @@ onDisk b r d =
     (cond (openAt b d) (refusing b R.Open) (opening b d (openDisk (nowOf r) (usedLimit r) (promisedLimit r))))
     (cond (openAt b d) (onPart b d (serveOf (partOf b d) (callOf r))) (refusing b R.Closed))
 
+-- A well-formed record.
+unfoldable pub onBoard : List ℕ → List ℕ → Told
+onBoard b r = cond (leb disks (diskNumber r)) (refusing b R.Disk) (onDisk b r (diskNumber r))
+
+-- Any record.
 unfoldable pub tellOf : List ℕ → List ℕ → Told
-tellOf b r =
-    cond (wellFormed r) (cond (leb disks (diskNumber r)) (refusing b R.Disk) (onDisk b r (diskNumber r))) (refusing b R.Record)
+tellOf b r = cond (wellFormed r) (onBoard b r) (refusing b R.Record)
 
 -- ---- the call
 

@@ -1,1 +1,5 @@
-// The desk: one call on lent bytes.
+// The desk: one call on lent bytes. The record and the board's frame, a call on the part of an open disk, the exported step.
+
+pub mod board;
+pub mod record;
+pub mod serve;

@@ -31,7 +31,7 @@ pub struct Decided {
 }
 
 // |d| of a claim that adds, 0 of any other.
-fn add_part(x: Claim) -> u64
+pub fn add_part(x: Claim) -> u64
     ensures { λ r. ⌜ r ≡ addOf x ⌝ }
     ensures { λ r. ⌜ r ≤ 2147483648 ⌝ }
 {

@@ -1,11 +1,11 @@
 -- The part of a disk: 768 bytes. A head of 64 bytes, then sixteen slots of 44, the active claims' eight and the waiting ones' eight.
 -- Every figure is a word of four bytes, lowest first; docs/LAYOUT.md draws it.
-use Prim.Native.Nat.{ℕ, zero, suc, _+_, _*_, _-_, _^_, _≤_, _<_}
-use mathlib.Core.Bool.{Bool, true, false, _&&_}
+use Prim.Native.Nat.{ℕ, zero, suc, _+_, _*_, _-_, _^_, _<_}
+use mathlib.Core.Bool.{Bool, true, _&&_}
 use mathlib.Core.List.{List, [], _∷_, _++_}
-use lib.Dec.{leb, eqb}
-use lib.IntN.{ℤ}
-use lib.ListN.{take, drop}
+use mathlib.Core.Path.{_≡_}
+use lib.Dec.{leb}
+use lib.ListN.{length, take, drop, getD}
 use lib.Signed.{mag}
 use Rattle.num.specs.Word.{wordAt}
 use Rattle.num.specs.Signed.{signedAt, wordOf}
@@ -13,6 +13,7 @@ use Rattle.num.specs.Runs.{flat, allZero}
 use Rattle.law.specs.declared.Attr.{Attr}
 use Rattle.law.specs.declared.Claim.{Claim}
 use Rattle.law.specs.Base.{allTrue}
+use Rattle.claims.specs.Rows.{noClaim}
 use Rattle.rules.specs.declared.disk.Disk.{Disk}
 
 -- ---- sizes and places
@@ -161,3 +162,27 @@ pub record AttrFits (a : Attr) : Type 0 where
   pub stamp : a .stamp < 2 ^ 32
   pub amount : a .amount < 2 ^ 32
   pub limit : a .limit < 2 ^ 32
+
+-- The state's amount and limit have no place, so they are 0.
+pub record StateFits (a : Attr) : Type 0 where
+  pub value : mag (a .value) < 2 ^ 31
+  pub stamp : a .stamp < 2 ^ 32
+  pub amount : a .amount ≡ 0
+  pub limit : a .limit ≡ 0
+
+-- Eight places whose claims all have a slot.
+pub record ClaimsFit (cs : List Claim) : Type 0 where
+  pub room : length cs ≡ 8
+  pub each : (k : ℕ) → ClaimFits (getD cs k noClaim)
+
+-- A disk of which every figure has its place.
+pub record DiskFits (d : Disk) : Type 0 where
+  pub clock : d .clock < 2 ^ 32
+  pub next : d .next < 2 ^ 32
+  pub actives : d .actives < 2 ^ 32
+  pub waitings : d .waitings < 2 ^ 32
+  pub used : AttrFits (d .used)
+  pub promised : AttrFits (d .promised)
+  pub state : StateFits (d .state)
+  pub active : ClaimsFit (d .active)
+  pub waiting : ClaimsFit (d .waiting)

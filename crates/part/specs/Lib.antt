@@ -1,2 +1,5 @@
 -- The layout of a part, with its laws.
+pub mod ByteLaws
 pub mod Layout
+pub mod LayoutLaws
+pub mod SlotLaws

@@ -1,11 +1,12 @@
 -- Laws of ranges: limits, errors and told sums of a sound disk.
 use Prim.Native.Nat.{ℕ, _≤_}
 use mathlib.Core.Bool.{true}
-use mathlib.Core.Path.{_≡_}
+use mathlib.Core.Path.{_≡_, ap}
 use native.Mathlib.Omega.{arith}
+use lib.IntN.{ℤ, pos, negsuc}
 use Rattle.num.specs.Metric.{size}
 use Rattle.law.specs.declared.Claim.{Claim}
-use Rattle.law.specs.Types.{mostError, Attribute, a0, a1, a2, Kind, sets, adds, reads, properKind, Figures, attr}
+use Rattle.law.specs.Types.{mostValue, mostError, Attribute, a0, a1, a2, Kind, sets, adds, reads, properKind, Figures, attr}
 use Rattle.law.specs.Fields.{ValueFits, FieldsFit}
 use Rattle.law.specs.Granting.{limitBy, tellBy}
 use Rattle.law.specs.Sound.{LimitFits}
@@ -33,3 +34,15 @@ pub tell-range : (f : Figures) (k : Kind) → properKind k ≡ true → ((a : At
 tell-range f (sets a) p h = omega arith
 tell-range f (adds a) p h = omega arith
 tell-range f (reads m) p h = told-range f m p h
+
+-- A value in its range, and that of a claim whose fields are.
+pub value-size : (a : Attribute) (z : ℤ) → ValueFits a z → size z ≤ mostValue
+value-size a0 z h = h
+value-size a1 z h = h
+value-size a2 (pos n) h = omega arith
+value-size a2 (negsuc n) h = absurd h
+
+pub fields-size : (now : ℕ) (k : Kind) (c : Claim) → FieldsFit now k c → size (c .value) ≤ mostValue
+fields-size now (sets a) c h = value-size a (c .value) (h .0)
+fields-size now (adds a) c h = h .0
+fields-size now (reads m) c h = omega (arith, ap size (h .0))

@@ -4,17 +4,15 @@ use mathlib.Core.Bool.{Bool, true, false, cond, _||_}
 use mathlib.Core.List.{List, [], _∷_}
 use mathlib.Core.Path.{_≡_, refl, sym, ap, _∙_}
 use native.Mathlib.Omega.{arith}
-use lib.IntN.{ℤ, pos, negsuc}
 use lib.ListN.{length, getD}
 use borrow.Author.Tests.{lt-ltb, le-ltb, ne-eqb}
 use Rattle.num.specs.Metric.{size}
 use Rattle.law.specs.declared.Claim.{Claim}
 use Rattle.law.specs.Base.{anyOf}
 use Rattle.law.specs.Lists.{never-true, none-tests, pairs-cross, all-left}
-use Rattle.law.specs.Types.{mostValue, Attribute, a0, a1, a2, Kind, sets, adds, reads, Figures, Disk as LawDisk, refused}
+use Rattle.law.specs.Types.{a1, Figures, Disk as LawDisk, refused}
 use Rattle.law.specs.Entries.{kindOf}
 use Rattle.law.specs.Calls.{hasTicket, without, landBy, landed, finish, at, release}
-use Rattle.law.specs.Fields.{ValueFits, FieldsFit}
 use Rattle.law.specs.Sound.{Passes, Sound}
 use Rattle.law.specs.SoundKept.{sound-finish}
 use Rattle.law.specs.TicketLaws.{Apart}
@@ -23,6 +21,7 @@ use Rattle.law.specs.DiskType.{diskTable}
 use Rattle.claims.specs.Rows.{noClaim, placeOf, removeAt}
 use Rattle.claims.specs.PlaceLaws.{any-first, place-ticket, without-place}
 use Rattle.rules.specs.Answers.{endedAt, leftAt, released}
+use Rattle.rules.proofs.RangeLaws.{fields-size}
 use Rattle.law.specs.Lists.{all-at}
 
 module _ (n : ℕ) where
@@ -61,17 +60,6 @@ module _ (n : ℕ) where
       go false h k = k (omega arith)
 
 -- An active claim that lands fits: its value and that of promised are in range.
-value-size : (a : Attribute) (z : ℤ) → ValueFits a z → size z ≤ mostValue
-value-size a0 z h = h
-value-size a1 z h = h
-value-size a2 (pos n) h = omega arith
-value-size a2 (negsuc n) h = absurd h
-
-fields-size : (now : ℕ) (k : Kind) (c : Claim) → FieldsFit now k c → size (c .value) ≤ mostValue
-fields-size now (sets a) c h = value-size a (c .value) (h .0)
-fields-size now (adds a) c h = h .0
-fields-size now (reads m) c h = omega (arith, ap size (h .0))
-
 pub land-fits : (d : LawDisk) (i : ℕ) → Sound diskTable d → i < length (d .core .active) →
     size (d .core .figures .f1 .value) + size (getD (d .core .active) i noClaim .value) ≤ 2_000_000_000
 land-fits d i s h =

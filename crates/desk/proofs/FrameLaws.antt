@@ -1,0 +1,122 @@
+-- Laws of the frame: a lent part that comes back, an open, and the tests before them.
+use Prim.Native.Nat.{ℕ, _+_, _*_, _-_, _≤_, _<_}
+use mathlib.Core.Bool.{Bool, true, false, cond, not}
+use mathlib.Core.List.{List, [], _∷_, _++_}
+use mathlib.Core.Path.{_≡_, refl, sym, ap, _∙_}
+use native.Mathlib.Omega.{arith}
+use borrow.Author.Tests.{eqb-true, eq-eqb, ne-eqb, le-leb, lt-leb}
+use borrow.Rule.Slice.PartMut.{putMid, post-is}
+use lib.Dec.{leb, eqb}
+use lib.ListN.{length, take, drop}
+use Rattle.num.specs.Opened.{openAt, setOpen}
+use Rattle.law.specs.Base.{allTrue}
+use Rattle.law.specs.Lists.{and-left}
+use Rattle.law.specs.Types.{mostError, Outcome, refused, accepted}
+use Rattle.law.specs.Calls.{item, opened, openDisk}
+use Rattle.rules.specs.declared.calls.Answered.{Answered}
+use Rattle.rules.specs.Disks.{DiskIs}
+use Rattle.rules.specs.Answers.{noDisk}
+use Rattle.rules.specs.AnswerLaws.{Admits, by-value}
+use Rattle.part.specs.Layout.{encode}
+use Rattle.answer.specs.declared.Answer.the-variants as A
+use Rattle.answer.specs.declared.Refusal.{Refusal}
+use Rattle.answer.specs.declared.Refusal.the-variants as R
+use Rattle.answer.specs.Answers.{numberOf, refusalOf, codeOf, answerBytes}
+use Rattle.desk.specs.Record.{kindOf, diskOf, nowOf, callOf, usedLimit, promisedLimit, wellFormed}
+use Rattle.desk.specs.Board.{disks, partAt, partOf, withPart}
+use Rattle.desk.specs.Step.{partFor, answerOf, Told, refusing, serveOf, onPart, opening, onDisk, onBoard, tellOf, stepOf, Stepped, stepped, written}
+
+-- ---- a lent part
+
+pub wide : (d : ℕ) → 64 + 768 * d + 768 - (64 + 768 * d) ≡ 768
+wide d = omega arith
+
+pub put-part : (b p : List ℕ) (d : ℕ) → putMid (64 + 768 * d) (64 + 768 * d + 768 - (64 + 768 * d)) b p ≡ withPart b d p
+put-part b p d = ap (λ (r : List ℕ). take (64 + 768 * d) b ++ (p ++ r)) (post-is (64 + 768 * d) (64 + 768 * d + 768) b (omega arith))
+
+-- ---- a refusal
+
+pub step-refusing : (b : List ℕ) (r : Refusal) {n : ℕ} {a : List ℕ} → n ≡ numberOf r → a ≡ answerBytes (A.Refused r) [] →
+    stepped n b a ≡ written (refusing b r)
+step-refusing b r h k = λ i. stepped (h i) b (k i)
+
+-- ---- an open
+
+module _ (b : List ℕ) (d : ℕ) where
+  pub open-refused : {o : Outcome} (m : ℕ) {n : ℕ} {a : List ℕ} → o ≡ refused m → n ≡ numberOf (refusalOf m) →
+      a ≡ answerBytes (A.Refused (refusalOf m)) [] → stepped n b a ≡ written (opening b d o)
+  open-refused m e h k = (λ i. stepped (h i) b (k i)) ∙ ap (λ (o : Outcome). written (opening b d o)) (sym e)
+
+  module _ (now l0 l1 : ℕ) (r : Answered) (h : Admits noDisk r (openDisk now l0 l1)) (z : r .refusal ≡ 0) where
+    opens : (openDisk now l0 l1 ≡ accepted (opened now l0 l1) (item 3 0 ∷ [])) × DiskIs (r .disk) (opened now l0 l1)
+    unfolding openDisk
+    opens = go (not (allTrue (leb l0 mostError ∷ leb l1 mostError ∷ []))) h
+      where
+        outcome : Bool → Outcome
+        outcome v = cond v (refused 17) (accepted (opened now l0 l1) (item 3 0 ∷ []))
+
+        go : (v : Bool) → Admits noDisk r (outcome v) →
+            (outcome v ≡ accepted (opened now l0 l1) (item 3 0 ∷ [])) × DiskIs (r .disk) (opened now l0 l1)
+        go true h = absurd (omega (arith, h .0, z))
+        go false h = (refl, h .1)
+
+    pub open-accepted : {c a : List ℕ} → c ≡ setOpen (withPart b d (encode (r .disk))) d → a ≡ answerBytes A.Opened [] →
+        stepped 3 c a ≡ written (opening b d (openDisk now l0 l1))
+    unfolding partFor answerOf
+    open-accepted e f =
+        (λ i. stepped 3 ((e ∙ ap (λ (p : List ℕ). setOpen (withPart b d p) d) (ap encode (by-value (opens .1)))) i) (f i))
+        ∙ ap (λ (o : Outcome). written (opening b d o)) (sym (opens .0))
+
+-- ---- a well-formed record
+
+module _ (b r : List ℕ) where
+  pub disk-unknown : {s : Stepped} → disks ≤ diskOf r → s ≡ written (refusing b R.Disk) → s ≡ written (onBoard b r)
+  unfolding onBoard
+  disk-unknown h e = rw (le-leb disks (diskOf r) h) e
+
+  module _ (known : diskOf r < disks) where
+    on-disk : onDisk b r (diskOf r) ≡ onBoard b r
+    unfolding onBoard
+    on-disk = rw (lt-leb disks (diskOf r) known)
+
+    pub open-again : {s : Stepped} → kindOf r ≡ 1 → openAt b (diskOf r) ≡ true → s ≡ written (refusing b R.Open) → s ≡ written (onBoard b r)
+    open-again k o e = rw (← on-disk, eq-eqb (kindOf r) 1 k, o) e
+
+    pub open-new : {s : Stepped} → kindOf r ≡ 1 → openAt b (diskOf r) ≡ false →
+        s ≡ written (opening b (diskOf r) (openDisk (nowOf r) (usedLimit r) (promisedLimit r))) → s ≡ written (onBoard b r)
+    open-new k o e = rw (← on-disk, eq-eqb (kindOf r) 1 k, o) e
+
+    pub not-open : {s : Stepped} → (kindOf r ≡ 1 → ⊥) → openAt b (diskOf r) ≡ false → s ≡ written (refusing b R.Closed) → s ≡ written (onBoard b r)
+    not-open k o e = rw (← on-disk, ne-eqb (kindOf r) 1 k, o) e
+
+    pub on-part : {n : ℕ} {p a : List ℕ} → (kindOf r ≡ 1 → ⊥) → openAt b (diskOf r) ≡ true →
+        stepped n p a ≡ written (serveOf (partOf b (diskOf r)) (callOf r)) →
+        stepped n (withPart b (diskOf r) p) a ≡ written (onBoard b r)
+    on-part k o e =
+        rw (← on-disk, ne-eqb (kindOf r) 1 k, o)
+        (ap (λ (s : Stepped). stepped (s .code) (withPart b (diskOf r) (s .bytes)) (s .answer)) e)
+
+-- ---- any call
+
+pub formed-length : (r : List ℕ) → wellFormed r ≡ true → length r ≡ 24
+unfolding wellFormed
+formed-length r h = eqb-true (length r) 24 (and-left (eqb (length r) 24) _ h)
+
+module _ (b r a : List ℕ) where
+  pub board-length : (length b ≡ 49_216 → ⊥) → stepped 9 b a ≡ stepOf b r a
+  unfolding stepOf
+  board-length h = rw (ne-eqb (length b) 49_216 h)
+
+  module _ (whole : length b ≡ 49_216) where
+    pub answer-length : (length a ≡ 144 → ⊥) → stepped 9 b a ≡ stepOf b r a
+    unfolding stepOf
+    answer-length h = rw (eq-eqb (length b) 49_216 whole, ne-eqb (length a) 144 h)
+
+    module _ (room : length a ≡ 144) where
+      pub record-refused : {s : Stepped} → wellFormed r ≡ false → s ≡ written (refusing b R.Record) → s ≡ stepOf b r a
+      unfolding stepOf tellOf
+      record-refused w e = rw (eq-eqb (length b) 49_216 whole, eq-eqb (length a) 144 room, w) e
+
+      pub record-accepted : {s : Stepped} → wellFormed r ≡ true → s ≡ written (onBoard b r) → s ≡ stepOf b r a
+      unfolding stepOf tellOf
+      record-accepted w e = rw (eq-eqb (length b) 49_216 whole, eq-eqb (length a) 144 room, w) e

@@ -1,0 +1,3 @@
+-- Laws that the proofs of several functions use.
+pub mod ServeLaws
+pub mod FrameLaws

@@ -1,0 +1,176 @@
+-- What is judged says which of the law's outcomes it is; part and answer are that outcome's.
+use Prim.Native.Nat.{ℕ}
+use mathlib.Core.List.{[], _∷_}
+use mathlib.Core.Path.{_≡_, refl, sym, ap, _∙_}
+use native.Mathlib.Omega.{arith}
+use borrow.Author.Needs.{needs}
+use lib.IntN.{ℤ}
+use mir.Facts.{toZ-ofZ}
+use mir.Syntax.{w32}
+use Rattle.num.specs.Fits.{size-fits}
+use Rattle.num.specs.Metric.{size}
+use Rattle.claims.specs.RowLaws.{row-length}
+use Rattle.law.specs.Types.{Asked as LawAsked, Outcome, refused, accepted}
+use Rattle.law.specs.Granting.{grantItem}
+use Rattle.law.specs.Calls.{asked, at, item, claim}
+use Rattle.law.specs.DiskType.{diskTable}
+use Rattle.rules.specs.declared.disk.Disk.{Disk}
+use Rattle.rules.specs.declared.disk.Item.{Item}
+use Rattle.rules.specs.declared.calls.Judgement.{Judgement}
+use Rattle.rules.specs.Answers.{askedOf, shownBy, TakesGrant, grantedOf, waitingOf}
+use Rattle.rules.specs.Disks.{diskOf}
+use Rattle.rules.proofs.CallLaws.{claim-granted, claim-waits, shown-refused, shown-passed, shown-granted, shown-later, shown-place, ticket-fits, takes-grant}
+use Rattle.answer.specs.declared.Refusal.{Refusal}
+use Rattle.answer.specs.declared.Answer.the-variants as A
+use Rattle.answer.specs.Answers.{numberOf, answerBytes}
+use Rattle.desk.specs.Step.{answerOf, grantOf}
+use Rattle.desk.proofs.ServeLaws.{step-refused, step-accepted}
+use Rattle.desk.proofs.serve.serve_claim.Statement.{statement}
+use Rattle.desk.proofs.serve.serve_claim.Tie as tie
+
+-- The law's outcome.
+abbrev law : tie.After-judged → Outcome
+law k = claim diskTable (diskOf (k .before .before .before .args .d)) (askedOf (k .before .before .before .args .q))
+
+-- Nothing refuses.
+accepts : (c : tie.Else1) → shownBy (law (c .before .before .before)) .refusal ≡ 0
+accepts c = sym (ap (λ (j : Judgement). j .refusal) (c .before .before .before .judged .ensures)) ∙ c .if1 .left
+
+-- The branch of the decision.
+abbrev taken : tie.After-struct-known2 → tie.Else1
+taken c = c .before .before
+
+code : (c : tie.After-struct-known2) → taken c .before .before .before .judged .result .own .code ≡ shownBy (law (taken c .before .before .before)) .own .code
+code c = ap (λ (j : Judgement). j .own .code) (taken c .before .before .before .judged .ensures)
+
+module _ (c : tie.Then2) where
+  abbrev k : tie.After-judged
+  k = taken (c .before) .before .before .before
+
+  abbrev d : Disk
+  d = k .before .before .before .args .d
+
+  abbrev q : LawAsked
+  q = askedOf (k .before .before .before .args .q)
+
+  granted-outcome : law k ≡ accepted (grantedOf (diskOf d) (q .now) (asked (diskOf d) q)) (grantItem diskTable (at (diskOf d) (q .now)) (asked (diskOf d) q) ∷ [])
+  granted-outcome =
+      claim-granted (diskOf d) q (shown-passed (diskOf d) q (accepts (taken (c .before))))
+      (shown-granted (diskOf d) q (accepts (taken (c .before))) (sym (code (c .before)) ∙ c .if2 .taken))
+
+  granted-takes : TakesGrant d (q .now) (asked (diskOf d) q) (k .judged .result .own .amount)
+  unfolding grantItem
+  granted-takes =
+      takes-grant d q (k .judged .result .own .amount) (k .before .before .before .pre .1 .1 .1 .0) (k .before .before .before .pre .1 .1 .1 .1)
+      (shown-passed (diskOf d) q (accepts (taken (c .before))))
+      (shown-granted (diskOf d) q (accepts (taken (c .before))) (sym (code (c .before)) ∙ c .if2 .taken))
+      (ap (λ (j : Judgement). j .own .amount) (k .judged .ensures ∙ ap shownBy granted-outcome))
+
+judged-requires : tie.Need-judged-requires
+judged-requires c κs = search needs
+
+refusal-of-requires : tie.Need-refusal-of-requires
+refusal-of-requires c κs = search needs
+
+refuse-requires : tie.Need-refuse-requires
+refuse-requires c κs = search needs
+
+same-length : tie.Need-same-length
+same-length c = search needs
+
+returns : tie.Need-returns
+returns c =
+    let k = c .before .before .before .before .before .before .before .before in
+    let n = ap (λ (j : Judgement). j .refusal) (k .judged .ensures) in
+    let r = c .before .before .before .refusal-of .ensures in
+    let e = c .before .before .refuse .ensures in
+    step-refused _ (k .judged .result .refusal) (shown-refused (law k) (λ z. c .before .before .before .before .before .if1 .taken (n ∙ z)) ∙ ap refused (sym n))
+    (e .0 ∙ ap numberOf r) (e .1 ∙ ap (λ (x : Refusal). answerBytes (A.Refused x) []) r)
+
+asked-requires : tie.Need-asked-requires
+asked-requires c κs = search needs
+
+grant-on-requires : tie.Need-grant-on-requires
+grant-on-requires c κs = (search needs, rw (c .before .before .before .asked .ensures) (granted-takes (c .before)))
+
+put-answer-requires : tie.Need-put-answer-requires
+put-answer-requires c κs = search needs
+
+same-length-2 : tie.Need-same-length-2
+same-length-2 c = search needs
+
+same-length-3 : tie.Need-same-length-3
+same-length-3 c = search needs
+
+returns-2 : tie.Need-returns-2
+unfolding answerOf grantItem
+returns-2 c =
+    let t = c .before .before .before .before .before .before .before .before .before in
+    let i = grantItem diskTable (at (diskOf (d t)) (q t .now)) (asked (diskOf (d t)) (q t)) in
+    step-accepted _ (grantedOf (diskOf (d t)) (q t .now) (asked (diskOf (d t)) (q t))) i [] (granted-outcome t) refl
+    (rw (t .before .before .asked .ensures) at (c .before .before .before .before .before .before .before .grant-on .ensures))
+    (c .before .before .put-answer .ensures
+    ∙ ap (λ (z : ℤ). answerBytes (A.Granted (k t .judged .result .own .ticket) z (k t .judged .result .own .amount)) [])
+    (toZ-ofZ (size-fits w32 (k t .judged .result .own .told) (omega (arith, ap size (ap (λ (j : Judgement). j .own .told) (k t .judged .ensures ∙ ap shownBy (granted-outcome t))), granted-takes t .tells))))
+    ∙ ap (λ (x : Item). answerBytes (grantOf x) []) (ap (λ (j : Judgement). j .own) (k t .judged .ensures ∙ ap shownBy (granted-outcome t))))
+
+wait-on-requires : tie.Need-wait-on-requires
+wait-on-requires c κs =
+    let u = taken (c .before .before) in
+    let s = u .before .before .before .before .before .before in
+    let y : (shownBy (law (u .before .before .before)) .own .code ≡ 0 → ⊥) = λ e. c .before .if2 .left (code (c .before .before) ∙ e) in
+    rw (c .before .before .before .asked .ensures) (
+      search needs,
+      (
+        s .pre .1 .1 .1 .0,
+        (
+          omega (arith, shown-place (diskOf (s .args .d)) (askedOf (s .args .q)) (accepts u) y, row-length (s .pre .1 .1 .1 .0 .waiting)),
+          ticket-fits (diskOf (s .args .d)) (askedOf (s .args .q)) (shown-passed (diskOf (s .args .d)) (askedOf (s .args .q)) (accepts u)),
+        ),
+      ),
+    )
+
+put-answer-requires-2 : tie.Need-put-answer-requires-2
+put-answer-requires-2 c κs = search needs
+
+same-length-4 : tie.Need-same-length-4
+same-length-4 c = search needs
+
+same-length-5 : tie.Need-same-length-5
+same-length-5 c = search needs
+
+returns-3 : tie.Need-returns-3
+unfolding answerOf
+returns-3 c =
+    let t = c .before .before .before .before .before .before .before .before in
+    let u = taken (t .before) in
+    let s = u .before .before .before .before .before .before in
+    let l = diskOf (s .args .d) in
+    let q = askedOf (s .args .q) in
+    let y : (shownBy (law (u .before .before .before)) .own .code ≡ 0 → ⊥) = λ e. t .if2 .left (code (t .before) ∙ e) in
+    let o = claim-waits l q (shown-passed l q (accepts u)) (shown-later l q (accepts u) y) (shown-place l q (accepts u) y) in
+    step-accepted _ (waitingOf l (q .now) (asked l q)) (item 1 (l .next)) [] o refl
+    (rw (t .before .before .asked .ensures) at (c .before .before .before .before .before .before .wait-on .ensures))
+    (c .before .before .put-answer2 .ensures
+    ∙ ap (λ (x : ℕ). answerBytes (A.Waits x) []) (ap (λ (j : Judgement). j .own .ticket) (u .before .before .before .judged .ensures ∙ ap shownBy o)))
+
+pub serve-claim-spec : {M : Type 1} → statement M
+serve-claim-spec =
+    tie.close
+    (tie.spec
+    judged-requires
+    refusal-of-requires
+    refuse-requires
+    same-length
+    returns
+    asked-requires
+    grant-on-requires
+    put-answer-requires
+    same-length-2
+    same-length-3
+    returns-2
+    wait-on-requires
+    put-answer-requires-2
+    same-length-4
+    same-length-5
+    returns-3)

@@ -1,0 +1,25 @@
+-- Each word is that of `claimWords`.
+use borrow.Author.Needs.{needs}
+use mir.Facts.{toZ-ofZ}
+use mir.Syntax.{w32}
+use mir.Val.{SFits}
+use Rattle.part.specs.Layout.{claimWords}
+use Rattle.part.proofs.write.claim_words.Statement.{statement}
+use Rattle.part.proofs.write.claim_words.Tie as tie
+
+to-word-requires : tie.Need-to-word-requires
+to-word-requires c κs = search needs
+
+to-word-requires-2 : tie.Need-to-word-requires-2
+to-word-requires-2 c κs = search needs
+
+returns : tie.Need-returns
+unfolding claimWords
+returns c =
+    let a = c .before .before .before .before .args in
+    let value : SFits w32 (a .c .value) = search needs in
+    let told : SFits w32 (a .c .told) = search needs in
+    rw (c .before .before .to-word .ensures, c .to-word2 .ensures, toZ-ofZ value, toZ-ofZ told)
+
+pub claim-words-spec : {M : Type 1} → statement M
+claim-words-spec = tie.close (tie.spec to-word-requires to-word-requires-2 returns)

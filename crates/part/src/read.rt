@@ -1,0 +1,101 @@
+// The disk by value that a part holds.
+
+ghost use mathlib.Core.Path.{_≡_};
+ghost use Prim.Native.Nat.{_+_, _≤_};
+ghost use lib.ListN.{length, take, drop};
+ghost use Rattle.part.specs.Layout.{claimIn, slots, attrAt, stateAt, decode};
+use claims::no_claim;
+use law::Attr;
+use law::Claim;
+use num::signed::signed_at;
+use num::word::word_at;
+use rules::disk::Disk;
+
+// The disk of a part.
+pub fn disk_of(s: &[u8]) -> Disk
+    requires { ⌜ length (now s) ≡ 768 ⌝ }
+    ensures { λ r. ⌜ r ≡ decode (now (s .entry)) ⌝ }
+{
+    let used = attr_at(s, 16);
+    let promised = attr_at(s, 32);
+    let state = state_at(s, 48);
+    let active = claims_at(s, 64);
+    let waiting = claims_at(s, 416);
+    Disk {
+        clock: word_at(s, 0),
+        next: word_at(s, 4),
+        actives: word_at(s, 8),
+        waitings: word_at(s, 12),
+        used,
+        promised,
+        state,
+        active,
+        waiting,
+    }
+}
+
+// The four figures of used or promised.
+fn attr_at(s: &[u8], at: usize) -> Attr
+    requires { ⌜ at + 16 ≤ length (now s) ⌝ }
+    ensures { λ r. ⌜ r ≡ attrAt (now (s .entry)) at ⌝ }
+{
+    Attr {
+        value: signed_at(s, at),
+        stamp: word_at(s, at + 4),
+        amount: word_at(s, at + 8),
+        limit: word_at(s, at + 12),
+    }
+}
+
+// The state's two.
+fn state_at(s: &[u8], at: usize) -> Attr
+    requires { ⌜ at + 8 ≤ length (now s) ⌝ }
+    ensures { λ r. ⌜ r ≡ stateAt (now (s .entry)) at ⌝ }
+{
+    Attr {
+        value: signed_at(s, at),
+        stamp: word_at(s, at + 4),
+        amount: 0,
+        limit: 0,
+    }
+}
+
+// The claims of eight slots.
+fn claims_at(s: &[u8], at: usize) -> [Claim; 8]
+    requires { ⌜ at + 352 ≤ length (now s) ⌝ }
+    ensures { λ r. ⌜ r ≡ slots 8 (drop at (now (s .entry))) ⌝ }
+{
+    let mut out = [no_claim(); 8];
+    let mut i: usize = 0;
+    while i < 8 {
+        out[i] = claim_at(s, at + 44 * i);
+        i += 1;
+    }
+    out
+}
+
+// The claim of the slot at an index.
+fn claim_at(s: &[u8], at: usize) -> Claim
+    requires { ⌜ at + 44 ≤ length (now s) ⌝ }
+    ensures { λ r. ⌜ r ≡ claimIn (take 44 (drop at (now (s .entry)))) ⌝ }
+{
+    claim_in(&s[at..at + 44])
+}
+
+// The claim in the bytes of a slot.
+fn claim_in(s: &[u8]) -> Claim
+    requires { ⌜ length (now s) ≡ 44 ⌝ }
+    ensures { λ r. ⌜ r ≡ claimIn (now (s .entry)) ⌝ }
+{
+    Claim {
+        ticket: word_at(s, 0),
+        method: word_at(s, 4),
+        priority: word_at(s, 8),
+        flag: word_at(s, 12),
+        measured: word_at(s, 16),
+        value: signed_at(s, 20),
+        error: word_at(s, 24),
+        told: signed_at(s, 28),
+        amount: word_at(s, 32),
+    }
+}

@@ -1,0 +1,4 @@
+pub mod TestLaws
+pub mod WalkLaws
+pub mod SoundLaws
+pub mod DiskLaws

@@ -1,0 +1,130 @@
+-- What the code tests of a disk, in its own order: its figures, its active claims, its waiting ones. The tests of single
+-- claims and attributes are the law's.
+use Prim.Native.Nat.{ℕ, _+_}
+use mathlib.Core.Bool.{Bool, true, not}
+use mathlib.Core.List.{List, [], _∷_, _++_}
+use lib.Dec.{leb, ltb, eqb}
+use Rattle.num.specs.Metric.{size}
+use Rattle.law.specs.declared.Attr.{Attr}
+use Rattle.law.specs.declared.Claim.{Claim}
+use Rattle.law.specs.Base.{allTrue, everyOf, sumOf}
+use Rattle.law.specs.Types.{mostValue, mostPriority, mostFlag, lastTicket, Attribute, a0, a1, a2, Figures, attr, Disk as LawDisk}
+use Rattle.law.specs.Entries.{kindOf, entry, isNever}
+use Rattle.law.specs.Calls.{valueFits, fieldTests, ownFits, before}
+use Rattle.law.specs.Sound.{bare, bareBy, readingBy, limitFits}
+use Rattle.law.specs.DiskType.{diskTable}
+use Rattle.lock.specs.Loops.{addOf}
+
+-- ---- figures
+
+-- An attribute by itself: value and limit in range, amount ≤ limit; then stamp ≤ clock.
+abbrev pub figureFront : Attribute → Attr → List Bool
+figureFront a x = valueFits a (x .value) ∷ limitFits a (x .limit) ∷ leb (x .amount) (x .limit) ∷ []
+
+abbrev pub figureTests : Attribute → ℕ → Attr → List Bool
+figureTests a now x = figureFront a x ++ (leb (x .stamp) now ∷ [])
+
+unfoldable pub figureFits : Attribute → ℕ → Attr → Bool
+figureFits a now x = allTrue (figureTests a now x)
+
+-- The next ticket and the three attributes.
+abbrev pub figuresFront : Figures → ℕ → ℕ → List Bool
+figuresFront f now next =
+    leb 1 next ∷ leb next (lastTicket + 1) ∷ figureFits a0 now (f .f0) ∷ figureFits a1 now (f .f1) ∷ []
+
+abbrev pub figuresTests : Figures → ℕ → ℕ → List Bool
+figuresTests f now next = figuresFront f now next ++ (figureFits a2 now (f .f2) ∷ [])
+
+unfoldable pub figuresFit : Figures → ℕ → ℕ → Bool
+figuresFit f now next = allTrue (figuresTests f now next)
+
+-- ---- a claim by itself
+
+-- Priority, flag and ticket in range; then the method (16).
+abbrev pub claimFront : ℕ → Claim → List Bool
+claimFront next c = leb (c .priority) mostPriority ∷ leb (c .flag) mostFlag ∷ leb 1 (c .ticket) ∷ ltb (c .ticket) next ∷ []
+
+abbrev pub claimTests : ℕ → Claim → List Bool
+claimTests next c = claimFront next c ++ (ltb (c .method) 7 ∷ [])
+
+unfoldable pub claimFits : ℕ → Claim → Bool
+claimFits next c = allTrue (claimTests next c)
+
+-- That, and the tests of 17 and 18.
+abbrev pub passTests : Figures → ℕ → ℕ → Claim → List Bool
+passTests f now next c =
+    claimFits next c ∷ allTrue (fieldTests now (kindOf diskTable c) c) ∷ ownFits f (kindOf diskTable c) (c .error) ∷ []
+
+-- Told and amount of an active claim.
+abbrev pub toldTests : Claim → List Bool
+toldTests c = bareBy (kindOf diskTable c) c ∷ readingBy (kindOf diskTable c) c ∷ []
+
+unfoldable pub toldFits : Claim → Bool
+toldFits c = allTrue (toldTests c)
+
+-- An active claim.
+abbrev pub activeTests : Figures → ℕ → ℕ → Claim → List Bool
+activeTests f now next c = passTests f now next c ++ (toldFits c ∷ [])
+
+unfoldable pub activeFits : Figures → ℕ → ℕ → Claim → Bool
+activeFits f now next c = allTrue (activeTests f now next c)
+
+-- A waiting claim.
+abbrev pub waitingTests : Figures → ℕ → ℕ → Claim → List Bool
+waitingTests f now next c = passTests f now next c ++ (bare c ∷ [])
+
+unfoldable pub waitingFits : Figures → ℕ → ℕ → Claim → Bool
+waitingFits f now next c = allTrue (waitingTests f now next c)
+
+-- ---- two claims
+
+-- Their tickets differ.
+abbrev pub apart : Claim → Claim → Bool
+apart x y = not (eqb (x .ticket) (y .ticket))
+
+-- Two active claims.
+abbrev pub meetTests : Claim → Claim → List Bool
+meetTests x y = apart x y ∷ not (isNever (entry diskTable x y)) ∷ []
+
+unfoldable pub meets : Claim → Claim → Bool
+meets x y = allTrue (meetTests x y)
+
+-- Two waiting claims, the one in front first.
+abbrev pub followTests : Claim → Claim → List Bool
+followTests x y = apart x y ∷ before x y ∷ []
+
+unfoldable pub follows : Claim → Claim → Bool
+follows x y = allTrue (followTests x y)
+
+-- ---- the walks
+
+-- Each claim of a list passes p, r with each one behind it, and s with each of the others.
+unfoldable pub walk : (Claim → Bool) → (Claim → Claim → Bool) → (Claim → Claim → Bool) → List Claim → List Claim → Bool
+walk p r s others [] = true
+walk p r s others (x ∷ xs) =
+    allTrue (p x ∷ everyOf (r x) xs ∷ everyOf (s x) others ∷ walk p r s others xs ∷ [])
+
+-- The active claims from some place on, with the waiting ones as the others.
+abbrev pub activeWalk : LawDisk → List Claim → Bool
+activeWalk d ws = walk (activeFits (d .core .figures) (d .core .clock) (d .next)) meets apart (d .waiting) ws
+
+-- The waiting claims from some place on.
+abbrev pub waitingWalk : LawDisk → List Claim → Bool
+waitingWalk d ws = walk (waitingFits (d .core .figures) (d .core .clock) (d .next)) follows apart [] ws
+
+-- |promised| with the |d| of the active adds.
+abbrev pub sumTest : LawDisk → Bool
+sumTest d = leb (size (attr (d .core .figures) a1 .value) + sumOf addOf (d .core .active)) mostValue
+
+-- ---- the whole
+
+-- The figures, the two walks; then the sum. (SoundLaws: these together are the law's "Sound".)
+abbrev pub codeFront : LawDisk → List Bool
+codeFront d =
+    figuresFit (d .core .figures) (d .core .clock) (d .next)
+    ∷ activeWalk d (d .core .active)
+    ∷ waitingWalk d (d .waiting)
+    ∷ []
+
+abbrev pub codeTests : LawDisk → List Bool
+codeTests d = codeFront d ++ (sumTest d ∷ [])

@@ -1,0 +1,70 @@
+// The figures of a disk: ranges, amounts and stamps, and the next ticket.
+
+ghost use mathlib.Core.Path.{_≡_};
+ghost use Rattle.law.specs.Types.{a0, a2};
+ghost use Rattle.lock.specs.Methods.{figuresOf};
+ghost use Rattle.sound.specs.Tests.{figureFits, figuresFit};
+use law::Attr;
+use num::signed::within;
+
+const MOST_VALUE: u32 = 1000000000;
+
+const MOST_ERROR: u32 = 2000000000;
+
+const MOST_STATE: u32 = 255;
+
+const MOST_NEXT: u32 = 1000000;
+
+// The next ticket and the three figures.
+pub fn figures_fit(used: Attr, promised: Attr, state: Attr, clock: u32, next: u32) -> bool
+    ensures { λ r. ⌜ r ≡ figuresFit (figuresOf used promised state) clock next ⌝ }
+{
+    if next < 1 {
+        return false;
+    }
+    if MOST_NEXT < next {
+        return false;
+    }
+    if !figure_fits(used, clock) {
+        return false;
+    }
+    if !figure_fits(promised, clock) {
+        return false;
+    }
+    state_fits(state, clock)
+}
+
+// A figure other than the state: value and limit in range, amount ≤ limit, stamp ≤ clock.
+fn figure_fits(a: Attr, clock: u32) -> bool
+    ensures { λ r. ⌜ r ≡ figureFits a0 clock a ⌝ }
+{
+    if !within(a.value, MOST_VALUE) {
+        return false;
+    }
+    if MOST_ERROR < a.limit {
+        return false;
+    }
+    if a.limit < a.amount {
+        return false;
+    }
+    a.stamp <= clock
+}
+
+// The state: a code 0 to 255 with limit 0.
+fn state_fits(a: Attr, clock: u32) -> bool
+    ensures { λ r. ⌜ r ≡ figureFits a2 clock a ⌝ }
+{
+    if a.value < 0 {
+        return false;
+    }
+    if !within(a.value, MOST_STATE) {
+        return false;
+    }
+    if a.limit != 0 {
+        return false;
+    }
+    if a.limit < a.amount {
+        return false;
+    }
+    a.stamp <= clock
+}
