@@ -5,3 +5,4 @@ pub mod Step
 pub mod Counts
 pub mod RangeLaws
 pub mod BoardLaws
+pub mod PartLaws

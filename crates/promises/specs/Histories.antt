@@ -1,0 +1,59 @@
+-- Any calls on a board from the empty one, each with any record and any answer buffer, and what was said on each disk so far.
+use Prim.Native.Nat.{ℕ}
+use mathlib.Core.Bool.{cond, _&&_}
+use mathlib.Core.List.{List, [], _∷_, _++_}
+use lib.Dec.{eqb}
+use lib.ListN.{length, replicate}
+use Rattle.num.specs.Word.{Bytes}
+use Rattle.law.specs.Types.{Item}
+use Rattle.answer.specs.Answers.{answerSize}
+use Rattle.answer.specs.declared.Refusal.the-variants as R
+use Rattle.desk.specs.Record.{diskOf}
+use Rattle.desk.specs.Board.{boardBytes}
+use Rattle.desk.specs.Step.{Said, refuses, tells, tellOf, Stepped, stepOf}
+
+-- All zeros is the empty board.
+abbrev pub emptyBoard : List ℕ
+emptyBoard = replicate boardBytes 0
+
+-- What a call hands in besides the board: the bytes of a record and of an answer buffer.
+pub record Call : Type 0 where
+  pub asks : List ℕ
+  pub buffer : List ℕ
+
+-- The record is bytes.
+abbrev pub BytesIn : Call → Type 0
+BytesIn k = Bytes (k .asks)
+
+-- The call's code, and board and answer buffer after it.
+abbrev pub stepBy : List ℕ → Call → Stepped
+stepBy b k = stepOf b (k .asks) (k .buffer)
+
+-- What the call says: its items, each with the error that the figures carried at that grant, or a refusal.
+unfoldable pub saidBy : List ℕ → Call → Said
+saidBy b k =
+    cond (eqb (length b) boardBytes && eqb (length (k .buffer)) answerSize) (tellOf b (k .asks) .said) (refuses R.Length)
+
+abbrev pub itemsIn : Said → List Item
+itemsIn (refuses r) = []
+itemsIn (tells items) = items
+
+-- The items that a call says on disk d.
+abbrev pub itemsOn : List ℕ → Call → ℕ → List Item
+itemsOn b k d = cond (eqb d (diskOf (k .asks))) (itemsIn (saidBy b k)) []
+
+-- A board, and for each disk the items said on it so far.
+pub record History : Type 0 where
+  pub board : List ℕ
+  pub past : ℕ → List Item
+
+abbrev pub begun : History
+begun = record { board = emptyBoard; past = λ d. [] }
+
+abbrev pub after : History → Call → History
+after h k = record { board = stepBy (h .board) k .bytes; past = λ d. h .past d ++ itemsOn (h .board) k d }
+
+-- The history after a list of calls.
+unfoldable pub lived : History → List Call → History
+lived h [] = h
+lived h (k ∷ ks) = lived (after h k) ks

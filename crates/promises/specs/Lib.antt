@@ -1,0 +1,3 @@
+-- The promises. First what they speak of, then the promises of the three demands, then laws.
+pub mod Histories
+pub mod Sentences

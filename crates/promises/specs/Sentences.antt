@@ -1,0 +1,62 @@
+-- Refusals 9 to 21 as 01's sentences over bytes, in the order they apply.
+use Prim.Native.Nat.{ℕ, _≤_, _<_}
+use mathlib.Core.Bool.{true, false, cond}
+use mathlib.Core.List.{List, [], _∷_, _++_}
+use mathlib.Core.Logic.{_⊎_}
+use mathlib.Core.Path.{_≡_}
+use lib.Dec.{eqb}
+use lib.ListN.{length}
+use Rattle.num.specs.Opened.{openAt}
+use Rattle.law.specs.Sentences.{Sentence, openSentences, sentencesOf}
+use Rattle.law.specs.Sound.{Sound}
+use Rattle.law.specs.DiskType.{diskTable}
+use Rattle.part.specs.Layout.{decodes}
+use Rattle.desk.specs.Record.{byteAt, kindOf, diskOf, callOf, usedLimit, promisedLimit}
+use Rattle.desk.specs.Board.{partOf}
+use Rattle.desk.specs.Step.{held}
+
+-- ---- 10: a well-formed record
+
+-- The bytes from one index up to another are zero.
+abbrev pub Unused : List ℕ → ℕ → ℕ → Type 0
+Unused r from to = (k : ℕ) → from ≤ k → k < to → byteAt r k ≡ 0
+
+-- An open with bytes 4–6 and 12–15 zero, a claim, or a release with bytes 4–6 and 16–23 zero.
+abbrev pub KindFits : List ℕ → Type 0
+KindFits r =
+    ((kindOf r ≡ 1) × Unused r 4 7 × Unused r 12 16) ⊎ ((kindOf r ≡ 2) ⊎ ((kindOf r ≡ 3) × Unused r 4 7 × Unused r 16 24))
+
+pub record WellFormed (r : List ℕ) : Type 0 where
+  pub size : length r ≡ 24
+  pub mark : (byteAt r 0 ≡ 0x52) × (byteAt r 1 ≡ 0x42)
+  pub kind : KindFits r
+  pub flag : byteAt r 6 ≤ 1
+  pub zero : byteAt r 7 ≡ 0
+
+-- ---- 14: a sound part
+
+-- It decodes, and the disk that it holds is sound.
+pub record SoundPart (p : List ℕ) : Type 0 where
+  pub whole : decodes p ≡ true
+  pub holds : Sound diskTable (held p)
+
+-- ---- the sentences
+
+-- 15 to 21: those of an open, or of the claim or release on the disk that the part holds.
+abbrev pub ruleSentences : List ℕ → List ℕ → List Sentence
+ruleSentences b r =
+    cond (eqb (kindOf r) 1)
+    (openSentences (usedLimit r) (promisedLimit r))
+    (sentencesOf diskTable (held (partOf b (diskOf r))) (callOf r))
+
+-- Board or answer buffer of another length; a record that is not well formed; a disk above 63; open of an open disk; claim or
+-- release on a closed disk; a part that is not sound (not for open).
+abbrev pub sentences : List ℕ → List ℕ → List ℕ → List Sentence
+sentences b r a =
+    record { number = 9; says = (length b ≡ 49_216) × (length a ≡ 144) → ⊥ }
+    ∷ record { number = 10; says = WellFormed r → ⊥ }
+    ∷ record { number = 11; says = 63 < diskOf r }
+    ∷ record { number = 12; says = (kindOf r ≡ 1) × (openAt b (diskOf r) ≡ true) }
+    ∷ record { number = 13; says = (kindOf r ≡ 1 → ⊥) × (openAt b (diskOf r) ≡ false) }
+    ∷ record { number = 14; says = (kindOf r ≡ 1 → ⊥) × (SoundPart (partOf b (diskOf r)) → ⊥) }
+    ∷ ruleSentences b r
