@@ -1,0 +1,164 @@
+-- Laws: a call on a board of the right length refuses and leaves it, or opens a disk, or is served by the law on a sound part.
+use Prim.Native.Nat.{ℕ, _≤_, _<_, _^_}
+use mathlib.Core.Bool.{Bool, true, false, cond, not}
+use mathlib.Core.List.{List, [], _∷_}
+use mathlib.Core.Path.{_≡_, refl, sym, ap, _∙_}
+use native.Mathlib.Omega.{arith}
+use borrow.Author.Tests.{leb-true, leb-false, eqb-true, eqb-false, not-false}
+use lib.Dec.{leb, eqb}
+use lib.ListN.{length}
+use Rattle.num.specs.Word.{Bytes, wordAt}
+use Rattle.num.specs.WordLaws.{word-at-fits}
+use Rattle.num.specs.Opened.{openAt, setOpen}
+use Rattle.law.specs.Base.{allTrue}
+use Rattle.law.specs.Lists.{passed}
+use Rattle.law.specs.Types.{mostError, Disk as LawDisk, Item, Outcome, refused, accepted}
+use Rattle.law.specs.Granting.{grant}
+use Rattle.law.specs.Calls.{item, at, opened, openDisk, pass, finish, without}
+use Rattle.law.specs.Events.{After, claim-after, release-after, pass-keeps}
+use Rattle.law.specs.History.{Call as LawCall, claims, releases, answered}
+use Rattle.law.specs.SoundKept.{ReadableCall}
+use Rattle.law.specs.DiskType.{diskTable}
+use Rattle.answer.specs.declared.Refusal.{Refusal}
+use Rattle.answer.specs.declared.Refusal.the-variants as R
+use Rattle.answer.specs.Answers.{refusalOf}
+use Rattle.desk.specs.Record.{byteAt, wellFormed, kindFits, kindOf, diskOf, nowOf, askedOf, callOf, usedLimit, promisedLimit}
+use Rattle.desk.specs.Board.{disks, boardBytes, partOf, withPart}
+use Rattle.desk.specs.BoardLaws.{with-same}
+use Rattle.desk.specs.Step.{held, partFor, soundPart, Said, refuses, tells, Told, telling, refusing, settled, serveOf, onPart, opening, onDisk, onBoard, tellOf}
+
+-- ---- the cases
+
+pub data Case (b r : List ℕ) : Type 0 where
+  isRefused : (x : Refusal) → tellOf b r ≡ refusing b x → Case b r
+  isOpened : wellFormed r ≡ true → diskOf r < disks → openAt b (diskOf r) ≡ false → usedLimit r ≤ mostError → promisedLimit r ≤ mostError →
+      tellOf b r
+      ≡ telling (setOpen (withPart b (diskOf r) (partFor (opened (nowOf r) (usedLimit r) (promisedLimit r)))) (diskOf r))
+      (tells (item 3 0 ∷ [])) →
+      Case b r
+  isServed : wellFormed r ≡ true → diskOf r < disks → openAt b (diskOf r) ≡ true → soundPart (partOf b (diskOf r)) ≡ true →
+      (e : LawDisk) (items : List Item) → answered diskTable (held (partOf b (diskOf r))) (callOf r) ≡ accepted e items →
+      tellOf b r ≡ telling (withPart b (diskOf r) (partFor e)) (tells items) → Case b r
+
+module _ (b r : List ℕ) (whole : length b ≡ boardBytes) where
+  abbrev d : ℕ
+  d = diskOf r
+
+  module _ (w : wellFormed r ≡ true) where
+    told-board : tellOf b r ≡ onBoard b r
+    unfolding tellOf
+    told-board = rw w
+
+    module _ (h : leb disks d ≡ false) where
+      known : d < disks
+      known = leb-false disks d h
+
+      told-disk : tellOf b r ≡ onDisk b r d
+      unfolding onBoard
+      told-disk = told-board ∙ rw h
+
+      -- A refusal on the part leaves the board.
+      part-refused : (x : Refusal) → onPart b d (refusing (partOf b d) x) ≡ refusing b x
+      part-refused x = ap (λ (c : List ℕ). refusing c x) (with-same b d whole known)
+
+      open-case : eqb (kindOf r) 1 ≡ true → openAt b d ≡ false → Case b r
+      unfolding openDisk
+      open-case k o =
+          go (allTrue (leb (usedLimit r) mostError ∷ leb (promisedLimit r) mostError ∷ [])) refl (told-disk ∙ rw (k, o))
+        where
+          outcome : Bool → Outcome
+          outcome v = cond (not v) (refused 17) (accepted (opened (nowOf r) (usedLimit r) (promisedLimit r)) (item 3 0 ∷ []))
+
+          go : (v : Bool) → allTrue (leb (usedLimit r) mostError ∷ leb (promisedLimit r) mostError ∷ []) ≡ v →
+              tellOf b r ≡ opening b d (outcome v) → Case b r
+          go true v e =
+              let p = passed (leb (usedLimit r) mostError ∷ leb (promisedLimit r) mostError ∷ []) v in
+              isOpened w known o (leb-true (usedLimit r) mostError (p .0)) (leb-true (promisedLimit r) mostError (p .1 .0)) e
+          go false v e = isRefused (refusalOf 17) e
+
+      serve-case : eqb (kindOf r) 1 ≡ false → openAt b d ≡ true → Case b r
+      unfolding serveOf
+      serve-case k o = go (soundPart (partOf b d)) refl (told-disk ∙ rw (k, o))
+        where
+          served : (z : Outcome) → answered diskTable (held (partOf b d)) (callOf r) ≡ z → soundPart (partOf b d) ≡ true →
+              tellOf b r ≡ onPart b d (settled (partOf b d) z) → Case b r
+          served (refused n) q s e = isRefused (refusalOf n) (e ∙ part-refused (refusalOf n))
+          served (accepted f items) q s e = isServed w known o s f items q e
+
+          go : (v : Bool) → soundPart (partOf b d) ≡ v →
+              tellOf b r
+              ≡ onPart b d
+              (cond v (settled (partOf b d) (answered diskTable (held (partOf b d)) (callOf r))) (refusing (partOf b d) R.Unsound)) →
+              Case b r
+          go true s e = served (answered diskTable (held (partOf b d)) (callOf r)) refl s e
+          go false s e = isRefused R.Unsound (e ∙ part-refused R.Unsound)
+
+      disk-case : Case b r
+      disk-case = go (eqb (kindOf r) 1) refl (openAt b d) refl
+        where
+          go : (v : Bool) → eqb (kindOf r) 1 ≡ v → (o : Bool) → openAt b d ≡ o → Case b r
+          go true v true o = isRefused R.Open (told-disk ∙ rw (v, o))
+          go true v false o = open-case v o
+          go false v true o = serve-case v o
+          go false v false o = isRefused R.Closed (told-disk ∙ rw (v, o))
+
+  pub told-case : Case b r
+  unfolding tellOf onBoard
+  told-case = go (wellFormed r) refl (leb disks d) refl
+    where
+      go : (v : Bool) → wellFormed r ≡ v → (u : Bool) → leb disks d ≡ u → Case b r
+      go false w u h = isRefused R.Record (rw w)
+      go true w true h = isRefused R.Disk (rw (w, h))
+      go true w false h = disk-case w h
+
+-- ---- a well-formed record holds a readable call
+
+flag-fits : (r : List ℕ) → wellFormed r ≡ true → byteAt r 6 ≤ 1
+unfolding wellFormed
+flag-fits r w =
+    let p =
+    passed
+    (eqb (length r) 24
+    ∷ eqb (byteAt r 0) 0x52
+    ∷ eqb (byteAt r 1) 0x42
+    ∷ eqb (byteAt r 7) 0
+    ∷ leb (byteAt r 6) 1
+    ∷ kindFits r (kindOf r)
+    ∷ [])
+    w in
+    leb-true (byteAt r 6) 1 (p .1 .1 .1 .1 .0)
+
+pub call-readable : (r : List ℕ) → Bytes r → wellFormed r ≡ true → ReadableCall (callOf r)
+unfolding askedOf
+call-readable r bs w = go (eqb (kindOf r) 2)
+  where
+    go : (v : Bool) → ReadableCall (cond v (claims (askedOf r)) (releases (nowOf r) (wordAt r 12)))
+    go true = record { priority = omega (arith, bs 5); flag = flag-fits r w }
+    go false = tt
+
+-- ---- an accepted call sets the clock to now
+
+abbrev pub nowIn : LawCall → ℕ
+nowIn (claims q) = q .now
+nowIn (releases now n) = now
+
+pub clock-set : (d : LawDisk) (k : LawCall) → After (λ e items. e .core .clock ≡ nowIn k) (answered diskTable d k)
+unfolding grant finish
+clock-set d (claims q) = claim-after diskTable (λ e items. e .core .clock ≡ q .now) d q (λ ok g. refl) (λ ok g. refl)
+clock-set d (releases now n) =
+    release-after diskTable (λ e items. e .core .clock ≡ now) d now n
+    (λ ok.
+    pass-keeps diskTable (λ u vs items. u .clock ≡ now) (λ u ahead c rest items g h. h)
+    (record { core = finish diskTable (at d now) n; ahead = []; items = [] })
+    (without n (d .waiting)) refl)
+
+pub call-now : (r : List ℕ) → nowIn (callOf r) ≡ nowOf r
+unfolding askedOf
+call-now r = go (eqb (kindOf r) 2)
+  where
+    go : (v : Bool) → nowIn (cond v (claims (askedOf r)) (releases (nowOf r) (wordAt r 12))) ≡ nowOf r
+    go true = refl
+    go false = refl
+
+pub now-fits : (r : List ℕ) → Bytes r → nowOf r < 2 ^ 32
+now-fits r bs = word-at-fits r 8 bs
