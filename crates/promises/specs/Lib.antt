@@ -3,3 +3,6 @@ pub mod Histories
 pub mod Sentences
 pub mod CaseLaws
 pub mod LifeLaws
+pub mod Demand3
+pub mod Kept
+pub mod Unique

@@ -1,0 +1,126 @@
+-- Demand 3 over bytes: a reading can rely on what it was told, and no reader pays for another's limit.
+use Prim.Native.Nat.{ℕ, _+_, _≤_, _<_}
+use mathlib.Core.Bool.{true, false, true≢false}
+use mathlib.Core.List.{List, [], _∷_}
+use mathlib.Core.Path.{_≡_, refl, sym, ap, subst, _∙_}
+use native.Mathlib.Omega.{arith}
+use borrow.Author.Tests.{eq-eqb, lt-leb}
+use lib.Dec.{eqb}
+use lib.IntN.{pos}
+use lib.ListN.{length}
+use Rattle.num.specs.Word.{wordAt}
+use Rattle.num.specs.Signed.{signedAt}
+use Rattle.num.specs.Metric.{dist}
+use Rattle.num.specs.Opened.{openAt}
+use Rattle.law.specs.Lists.{All, Pairs}
+use Rattle.law.specs.Types.{reads, Disk as LawDisk, Item, Outcome, accepted}
+use Rattle.law.specs.Entries.{kindAt, kindOf}
+use Rattle.law.specs.Readings.{present, carried}
+use Rattle.law.specs.Calls.{withGrant, claim}
+use Rattle.law.specs.History.{claims, answered}
+use Rattle.law.specs.GrantedAtOnce.{Reading, Free, readingItem, granted-at-once as law-granted-at-once}
+use Rattle.law.specs.Kept.{Once}
+use Rattle.law.specs.ReaderBound.{Bounded, reader-bound, granted-once as law-granted-once}
+use Rattle.law.specs.DiskType.{diskTable}
+use Rattle.answer.specs.declared.Answer.the-variants as A
+use Rattle.answer.specs.Answers.{answerBytes, answerSize}
+use Rattle.desk.specs.Record.{byteAt, wellFormed, kindOf as kindByte, diskOf, askedOf, callOf}
+use Rattle.desk.specs.Board.{disks, boardBytes, partOf, withPart}
+use Rattle.desk.specs.Step.{held, partFor, soundPart, answerOf, tells, Told, telling, settled, serveOf, onBoard, tellOf, Stepped, written, stepOf}
+use Rattle.desk.specs.PartLaws.{held-part, part-sound}
+use Rattle.promises.specs.Histories.{Call, BytesIn, stepBy, begun, lived}
+use Rattle.promises.specs.LifeLaws.{Life, lifeOf, life-sound, Stands, shut, lives, whole-begun, whole-lived}
+
+-- ---- first half
+
+-- The item granted a reading, and the reading is still active on the disk that the part holds: what it was told and the present sum
+-- of the same figures differ by no more than its stated limit less the error that those figures carried at that grant.
+abbrev pub Relies : List ℕ → Item → Type 0
+Relies p i =
+    i .code ≡ 0 →
+    All
+    (λ r. r .ticket ≡ i .ticket → (m : ℕ) → kindOf diskTable r ≡ reads m →
+    dist (i .told) (present (held p .core .figures) m) + i .carried ≤ r .error)
+    (held p .core .active)
+
+-- Any calls from the empty board, refused ones and calls on other disks among them: on every disk it holds for all that was said.
+pub told-bound : (ks : List Call) → All BytesIn ks → (d : ℕ) → d < disks →
+    All (Relies (partOf (lived begun ks .board) d)) (lived begun ks .past d)
+told-bound ks bs d h = go (whole-lived begun ks bs whole-begun .each d h)
+  where
+    go : Stands (lived begun ks .board) (lived begun ks .past d) d →
+        All (Relies (partOf (lived begun ks .board) d)) (lived begun ks .past d)
+    go (shut o e) = subst (All (Relies (partOf (lived begun ks .board) d))) (sym e) tt
+    go (lives o l p e) =
+        let disk : held (partOf (lived begun ks .board) d) ≡ lifeOf l .disk =
+        ap held p ∙ held-part (lifeOf l .disk) (life-sound l) (l .clock) in
+        subst (All (Relies (partOf (lived begun ks .board) d))) (sym e)
+        (subst (λ (x : LawDisk). All (Bounded diskTable (x .core)) (lifeOf l .past)) (sym disk)
+        (reader-bound diskTable (l .now) (l .limit0) (l .limit1) (l .calls)))
+
+-- Disk and ticket name a reading for all time: no ticket of a disk is granted twice.
+pub granted-once : (ks : List Call) → All BytesIn ks → (d : ℕ) → d < disks → Pairs Once (lived begun ks .past d)
+granted-once ks bs d h = go (whole-lived begun ks bs whole-begun .each d h)
+  where
+    go : Stands (lived begun ks .board) (lived begun ks .past d) d → Pairs Once (lived begun ks .past d)
+    go (shut o e) = subst (Pairs Once) (sym e) tt
+    go (lives o l p e) = subst (Pairs Once) (sym e) (law-granted-once diskTable (l .now) (l .limit0) (l .limit1) (l .calls))
+
+-- ---- second half
+
+-- A well-formed claim of a reading of mask m: a reading's method, no second of measuring, no value, a limit in range.
+pub record AsksReading (r : List ℕ) (m : ℕ) : Type 0 where
+  pub formed : wellFormed r ≡ true
+  pub claims : kindByte r ≡ 2
+  pub disk : diskOf r < 64
+  pub method : byteAt r 4 < 7
+  pub reading : kindAt diskTable (byteAt r 4) ≡ reads m
+  pub measured : wordAt r 12 ≡ 0
+  pub value : signedAt r 16 ≡ pos 0
+  pub stated : wordAt r 20 ≤ 2_000_000_000
+
+-- The law's reading of such a record.
+asks : (r : List ℕ) (m : ℕ) → AsksReading r m → Reading diskTable (askedOf r) m
+unfolding askedOf diskTable
+asks r m h = record { method = h .method; kind = h .reading; value = h .value; measured = h .measured; stated = h .stated }
+
+-- After any calls from the empty board, a reading on an open disk is granted in its own call under exactly the mission's conditions
+-- (`Free`); it is told the present sum, and its amount is the error that the figures carry.
+module _ (ks : List Call) (bs : All BytesIn ks) (k : Call) (room : length (k .buffer) ≡ 144) where
+  abbrev b : List ℕ
+  b = lived begun ks .board
+
+  abbrev r : List ℕ
+  r = k .asks
+
+  abbrev d : LawDisk
+  d = held (partOf b (diskOf r))
+
+  pub granted-at-once : (m : ℕ) → AsksReading r m → openAt b (diskOf r) ≡ true → Free diskTable d (askedOf r) m →
+      (stepBy b k .code ≡ 0)
+      × (stepBy b k .answer
+      ≡ answerBytes (A.Granted (d .next) (present (d .core .figures) m) (carried (d .core .figures) m)) [])
+  unfolding stepOf tellOf onBoard serveOf answerOf
+  granted-at-once m q o c =
+      (ap (λ (s : Stepped). s .code) step, ap (λ (s : Stepped). s .answer) step)
+    where
+      sound : soundPart (partOf b (diskOf r)) ≡ true
+      sound = go (whole-lived begun ks bs whole-begun .each (diskOf r) (q .disk))
+        where
+          go : Stands b (lived begun ks .past (diskOf r)) (diskOf r) → soundPart (partOf b (diskOf r)) ≡ true
+          go (shut x e) = absurd (true≢false (sym o ∙ x))
+          go (lives x l p e) = ap soundPart p ∙ part-sound (lifeOf l .disk) (life-sound l) (l .clock)
+
+      outcome : answered diskTable d (callOf r) ≡ accepted (withGrant diskTable d (askedOf r)) (readingItem d m ∷ [])
+      outcome = rw (eq-eqb (kindByte r) 2 (q .claims)) (law-granted-at-once diskTable d (askedOf r) m (asks r m (q)) c)
+
+      not-open : eqb (kindByte r) 1 ≡ false
+      not-open = rw (q .claims)
+
+      told : tellOf b r ≡ telling (withPart b (diskOf r) (partFor (withGrant diskTable d (askedOf r)))) (tells (readingItem d m ∷ []))
+      told = rw (q .formed, lt-leb disks (diskOf r) (q .disk), not-open, o, sound, outcome)
+
+      step : stepBy b k ≡ written (telling (withPart b (diskOf r) (partFor (withGrant diskTable d (askedOf r)))) (tells (readingItem d m ∷ [])))
+      step =
+          rw (eq-eqb (length b) boardBytes (whole-lived begun ks bs whole-begun .size), eq-eqb (length (k .buffer)) answerSize room)
+          (ap written told)

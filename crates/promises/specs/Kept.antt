@@ -1,0 +1,196 @@
+-- What every call keeps, whatever board is lent: no accepted call leaves an unsound part, and nothing but the call's own disk moves.
+use Prim.Native.Nat.{ℕ, _+_, _/_, _^_, _≤_, _<_}
+use mathlib.Core.Bool.{Bool, true, false, _&&_, true≢false}
+use mathlib.Core.List.{List, [], _∷_}
+use mathlib.Core.Logic.{_≢_}
+use mathlib.Core.Path.{_≡_, refl, sym, ap, subst, _∙_}
+use native.Mathlib.Omega.{arith}
+use borrow.Author.Tests.{eqb-true, eq-eqb, ne-eqb}
+use lib.Dec.{eqb}
+use lib.ListN.{length, getD}
+use Rattle.num.specs.Word.{Bytes}
+use Rattle.num.specs.Opened.{openAt, setOpen}
+use Rattle.num.specs.OpenedLaws.{length-set-open, byte-set-open, open-set-other}
+use Rattle.law.specs.Lists.{All, and-left}
+use Rattle.law.specs.Types.{Disk as LawDisk, Item, accepted}
+use Rattle.law.specs.Calls.{opened}
+use Rattle.law.specs.Events.{After}
+use Rattle.law.specs.History.{answered}
+use Rattle.law.specs.Sound.{Sound}
+use Rattle.law.specs.SoundKept.{sound-kept, sound-opened}
+use Rattle.law.specs.ProperLaws.{disk-proper}
+use Rattle.law.specs.DiskType.{diskTable}
+use Rattle.answer.specs.Answers.{numberOf, answerSize}
+use Rattle.answer.specs.AnswerLaws.{number-range}
+use Rattle.desk.specs.Record.{wellFormed, diskOf, nowOf, callOf, usedLimit, promisedLimit}
+use Rattle.desk.specs.Board.{disks, boardBytes, partOf, withPart}
+use Rattle.desk.specs.BoardLaws.{length-with, part-same, part-other, part-open, open-with, byte-before}
+use Rattle.desk.specs.Step.{held, partFor, soundPart, Told, tellOf, written, Stepped, stepped, stepOf}
+use Rattle.desk.specs.PartLaws.{part-sound, sound-held, sound-decodes, length-part-for}
+use Rattle.promises.specs.Sentences.{SoundPart}
+use Rattle.promises.specs.Histories.{Call, BytesIn, begun, lived}
+use Rattle.promises.specs.CaseLaws.{Case, isRefused, isOpened, isServed, told-case, call-readable, nowIn, clock-set, call-now, now-fits}
+use Rattle.promises.specs.LifeLaws.{lifeOf, life-sound, Stands, shut, lives, whole-begun, whole-lived}
+
+-- ---- what a call of the right lengths comes to
+
+-- A call with another length leaves the board; one with both lengths is told.
+data Lengths (b r a : List ℕ) : Type 0 where
+  wrong : stepOf b r a ≡ stepped 9 b a → Lengths b r a
+  right : length b ≡ boardBytes → stepOf b r a ≡ written (tellOf b r) → Lengths b r a
+
+lengths : (b r a : List ℕ) → Lengths b r a
+unfolding stepOf
+lengths b r a = go (eqb (length b) boardBytes && eqb (length a) answerSize) refl
+  where
+    go : (v : Bool) → (eqb (length b) boardBytes && eqb (length a) answerSize) ≡ v → Lengths b r a
+    go true v = right (eqb-true (length b) boardBytes (and-left (eqb (length b) boardBytes) (eqb (length a) answerSize) v)) (rw v)
+    go false v = wrong (rw v)
+
+-- ---- the disk that an accepted call leaves
+
+-- An opened disk, with its clock.
+opened-sound : (r : List ℕ) → usedLimit r ≤ 2_000_000_000 → promisedLimit r ≤ 2_000_000_000 →
+    Sound diskTable (opened (nowOf r) (usedLimit r) (promisedLimit r))
+opened-sound r f0 f1 = sound-opened diskTable (nowOf r) (usedLimit r) (promisedLimit r) f0 f1
+
+opened-clock : (r : List ℕ) → Bytes r → opened (nowOf r) (usedLimit r) (promisedLimit r) .core .clock < 2 ^ 32
+unfolding opened
+opened-clock r bs = now-fits r bs
+
+-- A served disk, with its clock.
+module _ (p r : List ℕ) (bs : Bytes r) (w : wellFormed r ≡ true) (s : soundPart p ≡ true) (f : LawDisk) (items : List Item)
+    (q : answered diskTable (held p) (callOf r) ≡ accepted f items) where
+  served-sound : Sound diskTable f
+  served-sound =
+      subst (After (λ g xs. Sound diskTable g)) q
+      (sound-kept diskTable disk-proper (held p) (callOf r) (call-readable r bs w) (sound-held p s))
+
+  served-clock : f .core .clock < 2 ^ 32
+  served-clock =
+      let e : f .core .clock ≡ nowIn (callOf r) =
+      subst (After (λ g xs. g .core .clock ≡ nowIn (callOf r))) q (clock-set (held p) (callOf r)) in
+      omega (arith, e, call-now r, now-fits r bs)
+
+  served-size : length (partFor f) ≡ 768
+  served-size = length-part-for f (served-sound .fewActive) (served-sound .fewWaiting)
+
+opened-size : (r : List ℕ) → length (partFor (opened (nowOf r) (usedLimit r) (promisedLimit r))) ≡ 768
+unfolding opened
+opened-size r = length-part-for (opened (nowOf r) (usedLimit r) (promisedLimit r)) (omega arith) (omega arith)
+
+-- The part of a sound disk.
+part-for-sound : (f : LawDisk) → Sound diskTable f → f .core .clock < 2 ^ 32 → SoundPart (partFor f)
+part-for-sound f s t =
+    let h : soundPart (partFor f) ≡ true = part-sound f s t in
+    record { whole = sound-decodes (partFor f) h; holds = sound-held (partFor f) h }
+
+-- ---- no accepted call leaves an unsound part
+
+module _ (b r a : List ℕ) (bs : Bytes r) where
+  -- Whatever board was lent.
+  pub no-unsound : stepOf b r a .code ≤ 3 → SoundPart (partOf (stepOf b r a .bytes) (diskOf r))
+  no-unsound h = go (lengths b r a)
+    where
+      told : length b ≡ boardBytes → stepOf b r a ≡ written (tellOf b r) → Case b r → SoundPart (partOf (stepOf b r a .bytes) (diskOf r))
+      told n e (isRefused x t) =
+          let z : stepOf b r a .code ≡ numberOf x = ap (λ (y : Stepped). y .code) (e ∙ ap written t) in
+          absurd (omega (arith, h, z, number-range x .0))
+      told n e (isOpened w known o f0 f1 t) =
+          subst SoundPart
+          (sym
+          (ap (λ (y : Stepped). partOf (y .bytes) (diskOf r)) (e ∙ ap written t)
+          ∙ part-open (withPart b (diskOf r) (partFor (opened (nowOf r) (usedLimit r) (promisedLimit r)))) (diskOf r) (diskOf r) known
+          ∙ part-same b (diskOf r) n known (partFor (opened (nowOf r) (usedLimit r) (promisedLimit r))) (opened-size r)))
+          (part-for-sound (opened (nowOf r) (usedLimit r) (promisedLimit r)) (opened-sound r f0 f1) (opened-clock r bs))
+      told n e (isServed w known o s f items q t) =
+          subst SoundPart
+          (sym
+          (ap (λ (y : Stepped). partOf (y .bytes) (diskOf r)) (e ∙ ap written t)
+          ∙ part-same b (diskOf r) n known (partFor f) (served-size (partOf b (diskOf r)) r bs w s f items q)))
+          (part-for-sound f (served-sound (partOf b (diskOf r)) r bs w s f items q) (served-clock (partOf b (diskOf r)) r bs w s f items q))
+
+      go : Lengths b r a → SoundPart (partOf (stepOf b r a .bytes) (diskOf r))
+      go (wrong e) = absurd (omega (arith, h, ap (λ (y : Stepped). y .code) e))
+      go (right n e) = told n e (told-case b r n)
+
+  -- ---- nothing but the call's own disk moves
+
+  -- The board stays; or the part of the call's disk is another; or that, and its bit is set.
+  data Change (c : List ℕ) : Type 0 where
+    none : c ≡ b → Change c
+    part : length b ≡ boardBytes → diskOf r < disks → (p : List ℕ) → length p ≡ 768 → c ≡ withPart b (diskOf r) p → Change c
+    opens : length b ≡ boardBytes → diskOf r < disks → (p : List ℕ) → length p ≡ 768 → c ≡ setOpen (withPart b (diskOf r) p) (diskOf r) → Change c
+
+  change : Change (stepOf b r a .bytes)
+  change = go (lengths b r a)
+    where
+      told : length b ≡ boardBytes → stepOf b r a ≡ written (tellOf b r) → Case b r → Change (stepOf b r a .bytes)
+      told n e (isRefused x t) = none (ap (λ (y : Stepped). y .bytes) (e ∙ ap written t))
+      told n e (isOpened w known o f0 f1 t) =
+          opens n known (partFor (opened (nowOf r) (usedLimit r) (promisedLimit r))) (opened-size r)
+          (ap (λ (y : Stepped). y .bytes) (e ∙ ap written t))
+      told n e (isServed w known o s f items q t) =
+          part n known (partFor f) (served-size (partOf b (diskOf r)) r bs w s f items q) (ap (λ (y : Stepped). y .bytes) (e ∙ ap written t))
+
+      go : Lengths b r a → Change (stepOf b r a .bytes)
+      go (wrong e) = none (ap (λ (y : Stepped). y .bytes) e)
+      go (right n e) = told n e (told-case b r n)
+
+  -- The other disks' parts.
+  pub other-parts : (e : ℕ) → e < disks → e ≢ diskOf r → partOf (stepOf b r a .bytes) e ≡ partOf b e
+  other-parts e l n = go (stepOf b r a .bytes) change
+    where
+      go : (c : List ℕ) → Change c → partOf c e ≡ partOf b e
+      go c (none q) = ap (λ (x : List ℕ). partOf x e) q
+      go c (part size known p full q) = ap (λ (x : List ℕ). partOf x e) q ∙ part-other b (diskOf r) size known p full e l n
+      go c (opens size known p full q) =
+          ap (λ (x : List ℕ). partOf x e) q
+          ∙ part-open (withPart b (diskOf r) p) (diskOf r) e known
+          ∙ part-other b (diskOf r) size known p full e l n
+
+  -- Their open bits.
+  pub other-bits : (e : ℕ) → e < disks → e ≢ diskOf r → openAt (stepOf b r a .bytes) e ≡ openAt b e
+  other-bits e l n = go (stepOf b r a .bytes) change
+    where
+      go : (c : List ℕ) → Change c → openAt c e ≡ openAt b e
+      go c (none q) = ap (λ (x : List ℕ). openAt x e) q
+      go c (part size known p full q) = ap (λ (x : List ℕ). openAt x e) q ∙ open-with b (diskOf r) size known p full e l
+      go c (opens size known p full q) =
+          ap (λ (x : List ℕ). openAt x e) q
+          ∙ open-set-other (withPart b (diskOf r) p) (diskOf r) known (omega (arith, length-with b (diskOf r) size known p full)) e n
+          ∙ open-with b (diskOf r) size known p full e l
+
+  -- Bytes 8 to 63 of the head.
+  pub head-stays : (k : ℕ) → 8 ≤ k → k < 64 → getD (stepOf b r a .bytes) k 0 ≡ getD b k 0
+  head-stays k l u = go (stepOf b r a .bytes) change
+    where
+      go : (c : List ℕ) → Change c → getD c k 0 ≡ getD b k 0
+      go c (none q) = ap (λ (x : List ℕ). getD x k 0) q
+      go c (part size known p full q) =
+          ap (λ (x : List ℕ). getD x k 0) q ∙ byte-before b (diskOf r) size known p full k (omega arith)
+      go c (opens size known p full q) =
+          ap (λ (x : List ℕ). getD x k 0) q
+          ∙ byte-set-open (withPart b (diskOf r) p) (diskOf r) k (λ e. omega (arith, known))
+          ∙ byte-before b (diskOf r) size known p full k (omega arith)
+
+  -- And the board keeps its length.
+  pub size-stays : length (stepOf b r a .bytes) ≡ length b
+  size-stays = go (stepOf b r a .bytes) change
+    where
+      go : (c : List ℕ) → Change c → length c ≡ length b
+      go c (none q) = ap length q
+      go c (part size known p full q) = ap length q ∙ length-with b (diskOf r) size known p full ∙ sym size
+      go c (opens size known p full q) =
+          ap length q ∙ length-set-open (withPart b (diskOf r) p) (diskOf r) ∙ length-with b (diskOf r) size known p full ∙ sym size
+
+-- ---- boards from the empty one
+
+-- Every open part is sound.
+pub open-parts-sound : (ks : List Call) → All BytesIn ks → (d : ℕ) → d < disks → openAt (lived begun ks .board) d ≡ true →
+    SoundPart (partOf (lived begun ks .board) d)
+open-parts-sound ks bs d h o = go (whole-lived begun ks bs whole-begun .each d h)
+  where
+    go : Stands (lived begun ks .board) (lived begun ks .past d) d → SoundPart (partOf (lived begun ks .board) d)
+    go (shut x e) = absurd (true≢false (sym o ∙ x))
+    go (lives x l p e) = subst SoundPart (sym p) (part-for-sound (lifeOf l .disk) (life-sound l) (l .clock))
