@@ -23,13 +23,27 @@ use Rattle.law.specs.Kept.{Once}
 use Rattle.law.specs.ReaderBound.{Bounded, reader-bound, granted-once as law-granted-once}
 use Rattle.law.specs.DiskType.{diskTable}
 use Rattle.answer.specs.declared.Answer.the-variants as A
-use Rattle.answer.specs.Answers.{answerBytes, answerSize}
+use Rattle.answer.specs.Answers.{codeOf, answerBytes, answerSize}
 use Rattle.desk.specs.Record.{byteAt, wellFormed, kindOf as kindByte, diskOf, askedOf, callOf}
 use Rattle.desk.specs.Board.{disks, boardBytes, partOf, withPart}
-use Rattle.desk.specs.Step.{held, partFor, soundPart, answerOf, tells, Told, telling, settled, serveOf, onBoard, tellOf, Stepped, written, stepOf}
+use Rattle.desk.specs.Step.{held, partFor, soundPart, answerOf, ownOf, grantsOf, tells, Told, telling, settled, serveOf, onBoard, tellOf, Stepped, written, stepOf}
 use Rattle.desk.specs.PartLaws.{held-part, part-sound}
-use Rattle.promises.specs.Histories.{Call, BytesIn, stepBy, begun, lived}
+use Rattle.promises.specs.Histories.{Call, BytesIn, stepBy, saidBy, begun, lived}
 use Rattle.promises.specs.LifeLaws.{Life, lifeOf, life-sound, Stands, shut, lives, whole-begun, whole-lived}
+
+-- ---- what is said is what the answer buffer shows
+
+-- The call returns its own answer's code; its own answer and the grants of its pass stand in the buffer, all else zero.
+pub answer-shows : (b : List ℕ) (k : Call) → length b ≡ boardBytes → length (k .buffer) ≡ answerSize →
+    (stepBy b k .code ≡ codeOf (ownOf (saidBy b k)))
+    × (stepBy b k .answer ≡ answerBytes (ownOf (saidBy b k)) (grantsOf (saidBy b k)))
+unfolding stepOf saidBy
+answer-shows b k n m = rw (eq-eqb (length b) boardBytes n, eq-eqb (length (k .buffer)) answerSize m) (refl, refl)
+
+-- An item that grants is shown with its ticket, what it was told, and its amount.
+pub grant-shows : (i : Item) → i .code ≡ 0 → answerOf i ≡ A.Granted (i .ticket) (i .told) (i .amount)
+unfolding answerOf
+grant-shows i e = rw e
 
 -- ---- first half
 
