@@ -24,10 +24,12 @@ use Rattle.law.specs.ReaderBound.{Bounded, reader-bound, granted-once as law-gr
 use Rattle.law.specs.DiskType.{diskTable}
 use Rattle.answer.specs.declared.Answer.the-variants as A
 use Rattle.answer.specs.Answers.{codeOf, answerBytes, answerSize}
-use Rattle.desk.specs.Record.{byteAt, wellFormed, kindOf as kindByte, diskOf, askedOf, callOf}
+use Rattle.desk.specs.Record.{byteAt, kindOf as kindByte, diskOf, askedOf, callOf}
 use Rattle.desk.specs.Board.{disks, boardBytes, partOf, withPart}
 use Rattle.desk.specs.Step.{held, partFor, soundPart, answerOf, ownOf, grantsOf, tells, Told, telling, settled, serveOf, onBoard, tellOf, Stepped, written, stepOf}
 use Rattle.desk.specs.PartLaws.{held-part, part-sound}
+use Rattle.promises.specs.Sentences.{WellFormed}
+use Rattle.promises.specs.RefusalLaws.{says-formed}
 use Rattle.promises.specs.Histories.{Call, BytesIn, stepBy, saidBy, begun, lived}
 use Rattle.promises.specs.LifeLaws.{Life, lifeOf, life-sound, Stands, shut, lives, whole-begun, whole-lived}
 
@@ -84,7 +86,7 @@ granted-once ks bs d h = go (whole-lived begun ks bs whole-begun .each d h)
 
 -- A well-formed claim of a reading of mask m: a reading's method, no second of measuring, no value, a limit in range.
 pub record AsksReading (r : List ℕ) (m : ℕ) : Type 0 where
-  pub formed : wellFormed r ≡ true
+  pub formed : WellFormed r
   pub claims : kindByte r ≡ 2
   pub disk : diskOf r < 64
   pub method : byteAt r 4 < 7
@@ -132,7 +134,7 @@ module _ (ks : List Call) (bs : All BytesIn ks) (k : Call) (room : length (k .bu
       not-open = rw (q .claims)
 
       told : tellOf b r ≡ telling (withPart b (diskOf r) (partFor (withGrant diskTable d (askedOf r)))) (tells (readingItem d m ∷ []))
-      told = rw (q .formed, lt-leb disks (diskOf r) (q .disk), not-open, o, sound, outcome)
+      told = rw (says-formed r .1 (q .formed), lt-leb disks (diskOf r) (q .disk), not-open, o, sound, outcome)
 
       step : stepBy b k ≡ written (telling (withPart b (diskOf r) (partFor (withGrant diskTable d (askedOf r)))) (tells (readingItem d m ∷ [])))
       step =

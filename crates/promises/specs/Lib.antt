@@ -1,8 +1,10 @@
--- The promises. First what they speak of, then the promises of the three demands, then laws.
+-- The promises. First what they speak of, then the promises, then laws.
 pub mod Histories
 pub mod Sentences
-pub mod CaseLaws
-pub mod LifeLaws
+pub mod Demand1
 pub mod Demand3
 pub mod Kept
 pub mod Unique
+pub mod RefusalLaws
+pub mod CaseLaws
+pub mod LifeLaws
