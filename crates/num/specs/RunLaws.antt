@@ -5,8 +5,8 @@ use mathlib.Core.Path.{_≡_, refl, sym, ap, _∙_}
 use native.Mathlib.Numerals.{add-one}
 use native.Mathlib.Omega.{arith}
 use borrow.Rule.Slice.PartMut.{putMid, post-is}
-use lib.ListN.{length, take, drop, set, length-append, drop-of-length-le}
-use lib.Seq.{sets, sets-eq, length-sets}
+use lib.ListN.{length, take, drop, set, length-append, length-set, drop-of-length-le}
+use lib.Seq.{sets, sets-eq, length-sets, set-append-left}
 use Rattle.num.specs.Word.{wordAt, putWord}
 use Rattle.num.specs.Runs.{le4, flat, splice}
 
@@ -87,3 +87,27 @@ mid-splice a e xs ys h g k =
     let w : a + length ys ≡ e = omega arith in
     ap (λ (r : List ℕ). take a xs ++ (ys ++ r)) (post-is a e xs h ∙ ap (λ (n : ℕ). drop n xs) (sym w))
     ∙ sym (splice-eq xs a ys (omega arith))
+
+-- ---- runs put into a list of two pieces
+
+sets-behind : (vs : List ℕ) (y : ℕ) (l : List ℕ) (j : ℕ) → sets (y ∷ l) (suc j) vs ≡ y ∷ sets l j vs
+sets-behind [] y l j = refl
+sets-behind (v ∷ vs) y l j = sets-behind vs y (set l j v) (suc j)
+
+-- Behind the first piece, the run is put into the second.
+pub splice-second : (h z : List ℕ) (i : ℕ) (vs : List ℕ) → splice (h ++ z) (length h + i) vs ≡ h ++ splice z i vs
+unfolding splice
+splice-second [] z i vs = ap (λ (k : ℕ). sets z k vs) (omega arith)
+splice-second (y ∷ h) z i vs =
+    let e : length (y ∷ h) + i ≡ suc (length h + i) = omega arith in
+    ap (λ (k : ℕ). sets (y ∷ (h ++ z)) k vs) e
+    ∙ sets-behind vs y (h ++ z) (length h + i)
+    ∙ ap {B = List ℕ} (λ r. y ∷ r) (splice-second h z i vs)
+
+-- Within the first piece, the second stays.
+pub splice-first : (h z : List ℕ) (i : ℕ) (vs : List ℕ) → i + length vs ≤ length h → splice (h ++ z) i vs ≡ splice h i vs ++ z
+unfolding splice
+splice-first h z i [] l = refl
+splice-first h z i (v ∷ vs) l =
+    ap (λ (r : List ℕ). sets r (suc i) vs) (set-append-left h z i v (omega arith))
+    ∙ splice-first (set h i v) z (suc i) vs (omega (arith, length-set h i v))

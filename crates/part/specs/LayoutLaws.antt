@@ -6,23 +6,23 @@ use mathlib.Core.List.{List, [], _∷_, _++_, append-assoc, append-nil}
 use mathlib.Core.Path.{_≡_, refl, sym, ap, _∙_}
 use native.Mathlib.Omega.{arith}
 use lib.Dec.{leb}
-use lib.ListN.{length, take, drop, getD, replicate, length-append, length-drop, length-replicate, take-append-drop}
+use lib.ListN.{length, take, drop, getD, set, replicate, length-append, length-drop, length-replicate, take-append-drop}
 use lib.Seq.{length-take-le, drop-drop, take-add, take-all, drop-at, getD-append-add}
 use borrow.Author.Tests.{leb-true}
 use Rattle.num.specs.Word.{wordAt, Bytes}
 use Rattle.num.specs.WordLaws.{word-at-fits}
 use Rattle.num.specs.Signed.{signedOf, wordOf, signed-word, word-signed, word-fits, signed-fits}
 use Rattle.num.specs.Runs.{le4, flat, splice, allZero}
-use Rattle.num.specs.RunLaws.{length-flat, splice-splice, splice-whole}
+use Rattle.num.specs.RunLaws.{length-flat, flat-append, splice-first, splice-second, splice-splice, splice-whole}
 use Rattle.law.specs.declared.Attr.{Attr}
 use Rattle.law.specs.declared.Claim.{Claim}
 use Rattle.law.specs.Lists.{Passed, passed, all-passed}
 use Rattle.claims.specs.Rows.{noClaim, Row}
 use Rattle.rules.specs.declared.disk.Disk.{Disk}
 use Rattle.rules.specs.Disks.{Good}
-use Rattle.part.specs.Layout.{slots, inSlots, attrAt, stateAt, headWords, decode, encode, zeroAt, spareZero, slotsWhole, decodes, AttrFits, StateFits, ClaimsFit, DiskFits}
+use Rattle.part.specs.Layout.{claimWords, slots, inSlots, attrAt, stateAt, headWords, decode, encode, zeroAt, spareZero, slotsWhole, decodes, AttrFits, StateFits, ClaimsFit, DiskFits}
 use Rattle.part.specs.ByteLaws.{wordsFrom, flat-words, word-flat, bytes-append, bytes-drop, bytes-flat, zero-byte, zero-same, word-none}
-use Rattle.part.specs.SlotLaws.{length-slots, length-in-slots, slots-append, slots-back, slots-whole, slots-none, none-at, none-zero, in-slots-append, put-whole, bytes-slots, slots-fit}
+use Rattle.part.specs.SlotLaws.{length-slots, length-slot, length-in-slots, put-in-slot, slots-append, slots-back, slots-whole, slots-none, none-at, none-zero, in-slots-append, put-whole, bytes-slots, slots-fit}
 
 -- ---- lengths
 
@@ -282,3 +282,47 @@ decode-fits s b =
       active = claims-fit (drop 64 s) (bytes-drop 64 s b);
       waiting = claims-fit (drop 416 s) (bytes-drop 416 s b);
     }
+
+-- ---- a part with one more active claim
+
+-- The disk with another clock and next ticket, and the claim c as its n-th active one.
+abbrev pub withClaim : Disk → ℕ → ℕ → ℕ → Claim → Disk
+withClaim d clock next n c =
+    record {
+      clock = clock;
+      next = next;
+      actives = n + 1;
+      waitings = d .waitings;
+      used = d .used;
+      promised = d .promised;
+      state = d .state;
+      active = set (d .active) n c;
+      waiting = d .waiting;
+    }
+
+-- Three words of the head and one slot are all that changes.
+pub put-one-claim : (d : Disk) (clock next n : ℕ) (c : Claim) → n < length (d .active) →
+    splice (splice (encode d) 0 (flat (clock ∷ next ∷ (n + 1) ∷ []))) (64 + 44 * n) (flat (claimWords c)) ≡ encode (withClaim d clock next n c)
+unfolding encode headWords
+put-one-claim d clock next n c h =
+    let new = withClaim d clock next n c in
+    let old = d .clock ∷ d .next ∷ d .actives ∷ [] in
+    let put = clock ∷ next ∷ (n + 1) ∷ [] in
+    let rest = drop 3 (headWords d) in
+    let same : length (flat old) ≡ length (flat put) = length-flat old ∙ sym (length-flat put) in
+    let head : splice (flat (headWords d)) 0 (flat put) ≡ flat (headWords new) =
+    ap (λ (r : List ℕ). splice r 0 (flat put)) (flat-append old rest)
+    ∙ splice-first (flat old) (flat rest) 0 (flat put) (omega (arith, same))
+    ∙ ap (λ (r : List ℕ). r ++ flat rest) (splice-whole (flat old) (flat put) same)
+    ∙ sym (flat-append put rest) in
+    ap (λ (r : List ℕ). splice r (64 + 44 * n) (flat (claimWords c)))
+    (splice-first (flat (headWords d)) (inSlots (d .active) ++ inSlots (d .waiting)) 0 (flat (clock ∷ next ∷ (n + 1) ∷ []))
+    (omega (arith, length-head d, length-flat (clock ∷ next ∷ (n + 1) ∷ [])))
+    ∙ ap (λ (r : List ℕ). r ++ (inSlots (d .active) ++ inSlots (d .waiting))) head)
+    ∙ ap (λ (k : ℕ). splice (flat (headWords new) ++ (inSlots (d .active) ++ inSlots (d .waiting))) (k + 44 * n) (flat (claimWords c)))
+    (sym (length-head new))
+    ∙ splice-second (flat (headWords new)) (inSlots (d .active) ++ inSlots (d .waiting)) (44 * n) (flat (claimWords c))
+    ∙ ap (λ (r : List ℕ). flat (headWords new) ++ r)
+    (splice-first (inSlots (d .active)) (inSlots (d .waiting)) (44 * n) (flat (claimWords c))
+    (omega (arith, length-in-slots (d .active), length-slot c))
+    ∙ ap (λ (r : List ℕ). r ++ inSlots (d .waiting)) (put-in-slot (d .active) n c h))

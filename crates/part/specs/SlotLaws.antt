@@ -14,7 +14,7 @@ use Rattle.num.specs.Word.{wordAt, Bytes}
 use Rattle.num.specs.WordLaws.{word-at-fits}
 use Rattle.num.specs.Signed.{signedOf, wordOf, signed-word, word-signed, word-fits, signed-fits}
 use Rattle.num.specs.Runs.{le4, flat, splice, allZero}
-use Rattle.num.specs.RunLaws.{length-flat, flat-append, flat-one, splice-splice}
+use Rattle.num.specs.RunLaws.{length-flat, flat-append, flat-one, splice-first, splice-second, splice-whole, splice-splice}
 use Rattle.law.specs.declared.Claim.{Claim}
 use Rattle.law.specs.Lists.{and-left, and-right, all-passed}
 use Rattle.claims.specs.Rows.{noClaim, Row}
@@ -312,3 +312,29 @@ unfolding slots
 slots-fit zero s b k = none-fits
 slots-fit (suc n) s b zero = claim-fits (take 44 s) (bytes-take 44 s b)
 slots-fit (suc n) s b (suc k) = slots-fit n (drop 44 s) (bytes-drop 44 s b) k
+
+-- ---- one slot put among others
+
+pub put-in-slot : (cs : List Claim) (i : ℕ) (c : Claim) → i < length cs →
+    splice (inSlots cs) (44 * i) (flat (claimWords c)) ≡ inSlots (set cs i c)
+unfolding inSlots
+put-in-slot [] i c h = absurd (omega arith)
+put-in-slot (x ∷ cs) zero c h =
+    splice-first (flat (claimWords x)) (inSlots cs) 0 (flat (claimWords c)) (omega (arith, length-slot x, length-slot c))
+    ∙ ap (λ (r : List ℕ). r ++ inSlots cs)
+    (splice-whole (flat (claimWords x)) (flat (claimWords c)) (omega (arith, length-slot x, length-slot c)))
+put-in-slot (x ∷ cs) (suc i) c h =
+    let e : 44 * suc i ≡ length (flat (claimWords x)) + 44 * i = omega (arith, length-slot x) in
+    ap (λ (k : ℕ). splice (flat (claimWords x) ++ inSlots cs) k (flat (claimWords c))) e
+    ∙ splice-second (flat (claimWords x)) (inSlots cs) (44 * i) (flat (claimWords c))
+    ∙ ap (λ (r : List ℕ). flat (claimWords x) ++ r) (put-in-slot cs i c (omega arith))
+
+-- ---- one slot read among others
+
+pub slot-at : (n : ℕ) (s : List ℕ) (i : ℕ) → i < n → getD (slots n s) i noClaim ≡ claimIn (take 44 (drop (44 * i) s))
+unfolding slots
+slot-at zero s i h = absurd (omega arith)
+slot-at (suc n) s zero h = refl
+slot-at (suc n) s (suc i) h =
+    let e : 44 + 44 * i ≡ 44 * suc i = omega arith in
+    slot-at n (drop 44 s) i (omega arith) ∙ ap (λ (r : List ℕ). claimIn (take 44 r)) (drop-drop (44 * i) 44 s ∙ ap (λ (k : ℕ). drop k s) e)

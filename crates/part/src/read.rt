@@ -1,8 +1,9 @@
 // The disk by value that a part holds.
 
 ghost use mathlib.Core.Path.{_≡_};
-ghost use Prim.Native.Nat.{_+_, _≤_};
-ghost use lib.ListN.{length, take, drop};
+ghost use Prim.Native.Nat.{_+_, _≤_, _<_};
+ghost use lib.ListN.{length, take, drop, getD};
+ghost use Rattle.claims.specs.Rows.{noClaim};
 ghost use Rattle.part.specs.Layout.{claimIn, slots, attrAt, stateAt, decode};
 use claims::no_claim;
 use law::Attr;
@@ -32,6 +33,45 @@ pub fn disk_of(s: &[u8]) -> Disk
         active,
         waiting,
     }
+}
+
+// The three figures of a part.
+pub fn used_at(s: &[u8]) -> Attr
+    requires { ⌜ length (now s) ≡ 768 ⌝ }
+    ensures { λ r. ⌜ r ≡ decode (now (s .entry)) .used ⌝ }
+{
+    attr_at(s, 16)
+}
+
+pub fn promised_at(s: &[u8]) -> Attr
+    requires { ⌜ length (now s) ≡ 768 ⌝ }
+    ensures { λ r. ⌜ r ≡ decode (now (s .entry)) .promised ⌝ }
+{
+    attr_at(s, 32)
+}
+
+pub fn code_at(s: &[u8]) -> Attr
+    requires { ⌜ length (now s) ≡ 768 ⌝ }
+    ensures { λ r. ⌜ r ≡ decode (now (s .entry)) .state ⌝ }
+{
+    state_at(s, 48)
+}
+
+// The claim of an active slot, and of a waiting one, read where it stands.
+pub fn active_at(s: &[u8], i: usize) -> Claim
+    requires { ⌜ length (now s) ≡ 768 ⌝ }
+    requires { ⌜ i < 8 ⌝ }
+    ensures { λ r. ⌜ r ≡ getD (decode (now (s .entry)) .active) i noClaim ⌝ }
+{
+    claim_at(s, 64 + 44 * i)
+}
+
+pub fn waiting_at(s: &[u8], i: usize) -> Claim
+    requires { ⌜ length (now s) ≡ 768 ⌝ }
+    requires { ⌜ i < 8 ⌝ }
+    ensures { λ r. ⌜ r ≡ getD (decode (now (s .entry)) .waiting) i noClaim ⌝ }
+{
+    claim_at(s, 416 + 44 * i)
 }
 
 // The four figures of used or promised.
