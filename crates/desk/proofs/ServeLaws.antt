@@ -11,7 +11,8 @@ use lib.Seq.{take-suc, length-take-le}
 use Rattle.law.specs.declared.Claim.{Claim}
 use Rattle.law.specs.Lists.{All, all-append}
 use Rattle.law.specs.Types.{Asked as LawAsked, Core, Disk as LawDisk, Item as LawItem, Outcome, refused, accepted}
-use Rattle.law.specs.Granting.{grantItem}
+use Rattle.law.specs.Entries.{kindOf}
+use Rattle.law.specs.Granting.{tellBy, putTold, total, grantItem}
 use Rattle.law.specs.Calls.{Rule, unless, item, pass, letGo, releaseRefusals, withEnd, claim, release}
 use Rattle.law.specs.History.{Call}
 use Rattle.law.specs.Sound.{sound}
@@ -20,19 +21,24 @@ use Rattle.law.specs.DiskType.{diskTable}
 use Rattle.rules.specs.declared.disk.Item.{Item}
 use Rattle.rules.specs.declared.disk.Disk.{Disk}
 use Rattle.rules.specs.declared.calls.Answered.{Answered}
-use Rattle.rules.specs.Disks.{diskOf}
-use Rattle.rules.specs.Answers.{noItem, shown, ItemsAre}
-use Rattle.rules.specs.AnswerLaws.{Admits}
-use Rattle.num.specs.Runs.{splice}
+use Rattle.rules.specs.Disks.{figuresIn, diskOf}
+use Rattle.rules.specs.Answers.{noItem, shown, ItemsAre, coreAt, TakesGrant, grantedOf}
+use Rattle.rules.specs.AnswerLaws.{Admits, by-value}
+use lib.IntN.{ℤ}
+use Rattle.num.specs.Runs.{flat, splice}
+use Rattle.claims.specs.RowLaws.{row-length}
+use Rattle.lock.specs.Methods.{isReading}
+use Rattle.rules.proofs.ChangeLaws.{grant-reading}
+use Rattle.part.specs.LayoutLaws.{put-one-claim}
 use Rattle.num.specs.Word.{wordAt}
-use Rattle.part.specs.Layout.{decode, decodes}
+use Rattle.part.specs.Layout.{claimWords, decode, encode, decodes}
 use Rattle.answer.specs.declared.Answer.{Answer}
 use Rattle.answer.specs.declared.Answer.the-variants as A
 use Rattle.answer.specs.declared.Refusal.the-variants as R
 use Rattle.answer.specs.Answers.{numberOf, refusalOf, codeOf, itemBytes, answerBytes}
 use Rattle.answer.specs.AnswerLaws.{one-more}
 use Rattle.desk.specs.Step.{partFor, answerOf, grantOf, soundPart, settled, serveOf, stepped, written}
-use Rattle.desk.specs.Record.{kindOf, nowOf, askedOf, callOf}
+use Rattle.desk.specs.Record.{kindOf as kindByte, nowOf, askedOf, callOf}
 
 -- ---- outcomes
 
@@ -44,6 +50,39 @@ pub step-accepted : (p : List ℕ) {o : Outcome} (d : LawDisk) (i : LawItem) (it
     o ≡ accepted d (i ∷ items) → n ≡ codeOf (answerOf i) → q ≡ partFor d → a ≡ answerBytes (answerOf i) (map answerOf items) →
     stepped n q a ≡ written (settled p o)
 step-accepted p d i items e h k l = (λ j. stepped (h j) (k j) (l j)) ∙ ap (λ (o : Outcome). written (settled p o)) (sym e)
+
+-- ---- a granted reading
+
+-- Another clock and next ticket.
+abbrev clocked : Disk → ℕ → ℕ → Disk
+clocked d second next =
+    record {
+      clock = second;
+      next = next;
+      actives = d .actives;
+      waitings = d .waitings;
+      used = d .used;
+      promised = d .promised;
+      state = d .state;
+      active = d .active;
+      waiting = d .waiting;
+    }
+
+-- Put in its place, it makes the part of the law's grant.
+pub read-part : (d : Disk) (second : ℕ) (c : Claim) {z : ℤ} {m : ℕ} {p : List ℕ} → TakesGrant d second c m →
+    isReading (kindOf diskTable c) ≡ true → z ≡ tellBy (figuresIn d) (kindOf diskTable c) → p ≡ encode d →
+    splice (splice p 0 (flat (second ∷ (c .ticket + 1) ∷ (d .actives + 1) ∷ []))) (64 + 44 * d .actives) (flat (claimWords (putTold c z m)))
+    ≡ partFor (grantedOf (diskOf d) second c)
+unfolding partFor grantedOf
+read-part d second c {z} {m} {p} t r e f =
+    let n = d .actives in
+    let g = putTold c (tellBy (figuresIn d) (kindOf diskTable c)) (total diskTable (coreAt d second) c) in
+    let words = flat (second ∷ (c .ticket + 1) ∷ (n + 1) ∷ []) in
+    (λ i. splice (splice (f i) 0 words) (64 + 44 * n) (flat (claimWords (putTold c (e i) (t .counts i)))))
+    ∙ put-one-claim d second (c .ticket + 1) n g (omega (arith, t .may .place, row-length (t .good .active), t .good .active .room))
+    ∙ ap encode
+    (by-value
+    (grant-reading (clocked d second (c .ticket + 1)) c (record { active = t .good .active; waiting = t .good .waiting }) (t .may) r))
 
 -- ---- grants
 
@@ -161,12 +200,12 @@ module _ (p : List ℕ) {n : ℕ} {a : List ℕ} where
     serve-unsound k e h l = rw (good, rw reads at e) (λ i. stepped (h i) p (l i))
 
     module _ (holds : sound diskTable (diskOf d) ≡ true) (r : List ℕ) where
-      pub serve-claims : {q : LawAsked} {s : List ℕ} → q ≡ askedOf r → kindOf r ≡ 2 →
+      pub serve-claims : {q : LawAsked} {s : List ℕ} → q ≡ askedOf r → kindByte r ≡ 2 →
           stepped n s a ≡ written (settled p (claim diskTable (diskOf d) q)) → stepped n s a ≡ written (serveOf p (callOf r))
       unfolding serveOf soundPart
-      serve-claims e k h = rw (good, rw reads at holds, eq-eqb (kindOf r) 2 k) (rw (reads, e) at h)
+      serve-claims e k h = rw (good, rw reads at holds, eq-eqb (kindByte r) 2 k) (rw (reads, e) at h)
 
-      pub serve-releases : {now t : ℕ} {s : List ℕ} → now ≡ nowOf r → t ≡ wordAt r 12 → (kindOf r ≡ 2 → ⊥) →
+      pub serve-releases : {now t : ℕ} {s : List ℕ} → now ≡ nowOf r → t ≡ wordAt r 12 → (kindByte r ≡ 2 → ⊥) →
           stepped n s a ≡ written (settled p (release diskTable (diskOf d) now t)) → stepped n s a ≡ written (serveOf p (callOf r))
       unfolding serveOf soundPart
-      serve-releases e f k h = rw (good, rw reads at holds, ne-eqb (kindOf r) 2 k) (rw (reads, e, f) at h)
+      serve-releases e f k h = rw (good, rw reads at holds, ne-eqb (kindByte r) 2 k) (rw (reads, e, f) at h)

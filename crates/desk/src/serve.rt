@@ -2,16 +2,18 @@
 // writes nothing to the part.
 
 ghost use mathlib.Core.Path.{_≡_};
-ghost use mathlib.Core.List.{[], map};
-ghost use Prim.Native.Nat.{_≤_, _<_};
+ghost use mathlib.Core.List.{[], _∷_, map};
+ghost use Prim.Native.Nat.{_+_, _*_, _≤_, _<_};
 ghost use lib.ListN.{length, take};
 ghost use Rattle.law.specs.Calls.{claim as lawClaim, release as lawRelease};
+ghost use Rattle.law.specs.Granting.{putTold};
 ghost use Rattle.law.specs.Sound.{Sound};
 ghost use Rattle.law.specs.Types.{Item as LawItem};
 ghost use Rattle.law.specs.DiskType.{diskTable};
 ghost use Rattle.rules.specs.Disks.{diskOf, Good};
 ghost use Rattle.rules.specs.Answers.{askedOf, TakesGrant, ItemsAre, grantedOf, waitingOf};
-ghost use Rattle.part.specs.Layout.{encode};
+ghost use Rattle.num.specs.Runs.{flat, splice};
+ghost use Rattle.part.specs.Layout.{claimWords, encode};
 ghost use Rattle.answer.specs.declared.Answer.the-variants.{Refused};
 ghost use Rattle.answer.specs.Answers.{numberOf, answerBytes};
 ghost use Rattle.desk.specs.Record.{callOf};
@@ -24,10 +26,12 @@ use answer::put_answer;
 use answer::put_grant;
 use answer::refusal_of;
 use law::Claim;
+use lock::method::is_reading;
 use num::word::word_at;
 use part::read::disk_of;
 use part::whole::decodes;
 use part::write::put_disk;
+use part::write::put_granted;
 use rules::calls::asked;
 use rules::calls::granting;
 use rules::calls::judged;
@@ -46,6 +50,19 @@ pub fn refuse(answer: &mut [u8], r: Refusal) -> u32
 {
     put_answer(answer, Answer::Refused(r));
     number(r)
+}
+
+// The reading c granted behind n active claims: it is put in its place, and nothing else changes but clock and next ticket.
+fn read_on(part: &mut [u8], second: u32, n: u32, c: Claim, own: Item)
+    requires { ⌜ length (now part) ≡ 768 ⌝ }
+    requires { ⌜ n < 8 ⌝ }
+    requires { ⌜ c .ticket ≤ 999_999 ⌝ }
+    ensures { λ _. ⌜ now (part .exit) ≡ splice (splice (now (part .entry)) 0 (flat (second ∷ (c .ticket + 1) ∷ (n + 1) ∷ []))) (64 + 44 * n) (flat (claimWords (putTold c (own .told) (own .amount)))) ⌝ }
+{
+    let mut g = c;
+    g.told = own.told;
+    g.amount = own.amount;
+    put_granted(part, second, c.ticket + 1, n, g);
 }
 
 // The claim c granted, on the part that holds d.
@@ -84,8 +101,12 @@ fn serve_claim(part: &mut [u8], d: Disk, q: Asked, answer: &mut [u8]) -> u32
     }
     let c = asked(q, d.next);
     if own.code == 0 {
-        grant_on(part, d, q.now, c, own.amount);
         put_answer(answer, Answer::Granted(own.ticket, own.told, own.amount));
+        if is_reading(q.method) {
+            read_on(part, q.now, d.actives, c, own);
+            return 0;
+        }
+        grant_on(part, d, q.now, c, own.amount);
         return 0;
     }
     wait_on(part, d, q.now, c);

@@ -1,12 +1,13 @@
 -- What is judged says which of the law's outcomes it is; part and answer are that outcome's.
 use Prim.Native.Nat.{ℕ}
-use mathlib.Core.List.{[], _∷_}
+use mathlib.Core.List.{List, [], _∷_}
 use mathlib.Core.Path.{_≡_, refl, sym, ap, _∙_}
 use native.Mathlib.Omega.{arith}
 use borrow.Author.Needs.{needs}
 use lib.IntN.{ℤ}
 use mir.Facts.{toZ-ofZ}
 use mir.Syntax.{w32}
+use mir.Val.{toZ, ofZ}
 use Rattle.num.specs.Fits.{size-fits}
 use Rattle.num.specs.Metric.{size}
 use Rattle.claims.specs.RowLaws.{row-length}
@@ -24,7 +25,7 @@ use Rattle.answer.specs.declared.Refusal.{Refusal}
 use Rattle.answer.specs.declared.Answer.the-variants as A
 use Rattle.answer.specs.Answers.{numberOf, answerBytes}
 use Rattle.desk.specs.Step.{answerOf, grantOf}
-use Rattle.desk.proofs.ServeLaws.{step-refused, step-accepted}
+use Rattle.desk.proofs.ServeLaws.{step-refused, step-accepted, read-part}
 use Rattle.desk.proofs.serve.serve_claim.Statement.{statement}
 use Rattle.desk.proofs.serve.serve_claim.Tie as tie
 
@@ -66,6 +67,22 @@ module _ (c : tie.Then2) where
       (shown-granted (diskOf d) q (accepts (taken (c .before))) (sym (code (c .before)) ∙ c .if2 .taken))
       (ap (λ (j : Judgement). j .own .amount) (k .judged .ensures ∙ ap shownBy granted-outcome))
 
+  -- The answer shows the grant.
+  shows : {a : List ℕ} →
+      a
+      ≡ answerBytes
+      (A.Granted (k .judged .result .own .ticket) (toZ w32 (ofZ w32 (k .judged .result .own .told))) (k .judged .result .own .amount))
+      [] →
+      a ≡ answerBytes (answerOf (grantItem diskTable (at (diskOf d) (q .now)) (asked (diskOf d) q))) []
+  unfolding answerOf grantItem
+  shows e =
+      e
+      ∙ ap (λ (z : ℤ). answerBytes (A.Granted (k .judged .result .own .ticket) z (k .judged .result .own .amount)) [])
+      (toZ-ofZ
+      (size-fits w32 (k .judged .result .own .told)
+      (omega (arith, ap size (ap (λ (j : Judgement). j .own .told) (k .judged .ensures ∙ ap shownBy granted-outcome)), granted-takes .tells))))
+      ∙ ap (λ (x : Item). answerBytes (grantOf x) []) (ap (λ (j : Judgement). j .own) (k .judged .ensures ∙ ap shownBy granted-outcome))
+
 judged-requires : tie.Need-judged-requires
 judged-requires c κs = search needs
 
@@ -90,11 +107,18 @@ returns c =
 asked-requires : tie.Need-asked-requires
 asked-requires c κs = search needs
 
-grant-on-requires : tie.Need-grant-on-requires
-grant-on-requires c κs = (search needs, rw (c .before .before .before .asked .ensures) (granted-takes (c .before)))
-
 put-answer-requires : tie.Need-put-answer-requires
 put-answer-requires c κs = search needs
+
+is-reading-requires : tie.Need-is-reading-requires
+is-reading-requires c κs = search needs
+
+read-on-requires : tie.Need-read-on-requires
+read-on-requires c κs =
+    let t = c .before .before .before .before .before .before .before .before in
+    let s = c .before .before .before .before .before .before .before .before .before .before .before .before .before .before .before .before .before in
+    rw (c .before .before .before .before .before .before .before .before .before .before .asked .ensures)
+    (s .pre .1 .0, (omega (arith, granted-takes t .may .place, row-length (s .pre .1 .1 .1 .0 .active)), granted-takes t .ticket))
 
 same-length-2 : tie.Need-same-length-2
 same-length-2 c = search needs
@@ -105,14 +129,31 @@ same-length-3 c = search needs
 returns-2 : tie.Need-returns-2
 unfolding answerOf grantItem
 returns-2 c =
-    let t = c .before .before .before .before .before .before .before .before .before in
+    let t = c .before .before .before .before .before .before .before .before .before .before .before in
     let i = grantItem diskTable (at (diskOf (d t)) (q t .now)) (asked (diskOf (d t)) (q t)) in
     step-accepted _ (grantedOf (diskOf (d t)) (q t .now) (asked (diskOf (d t)) (q t))) i [] (granted-outcome t) refl
-    (rw (t .before .before .asked .ensures) at (c .before .before .before .before .before .before .before .grant-on .ensures))
-    (c .before .before .put-answer .ensures
-    ∙ ap (λ (z : ℤ). answerBytes (A.Granted (k t .judged .result .own .ticket) z (k t .judged .result .own .amount)) [])
-    (toZ-ofZ (size-fits w32 (k t .judged .result .own .told) (omega (arith, ap size (ap (λ (j : Judgement). j .own .told) (k t .judged .ensures ∙ ap shownBy (granted-outcome t))), granted-takes t .tells))))
-    ∙ ap (λ (x : Item). answerBytes (grantOf x) []) (ap (λ (j : Judgement). j .own) (k t .judged .ensures ∙ ap shownBy (granted-outcome t))))
+    ((rw (t .before .before .asked .ensures) at (c .before .before .read-on .ensures))
+    ∙ read-part (d t) (q t .now) (asked (diskOf (d t)) (q t)) (granted-takes t) (sym (c .before .before .before .before .before .is-reading .ensures) ∙ c .before .before .before .before .if3 .taken)
+    (ap (λ (j : Judgement). j .own .told) (k t .judged .ensures ∙ ap shownBy (granted-outcome t))) (k t .before .before .before .pre .0))
+    (shows t (c .before .before .before .before .before .before .before .before .put-answer .ensures))
+
+grant-on-requires : tie.Need-grant-on-requires
+grant-on-requires c κs = (c .before .before .before .before .before .before .before .before .before .before .before .before .before .before .before .before .before .pre .1 .0, rw (c .before .before .before .before .before .before .before .before .before .before .asked .ensures) (granted-takes (c .before .before .before .before .before .before .before .before)))
+
+same-length-4 : tie.Need-same-length-4
+same-length-4 c = search needs
+
+same-length-5 : tie.Need-same-length-5
+same-length-5 c = search needs
+
+returns-3 : tie.Need-returns-3
+unfolding answerOf grantItem
+returns-3 c =
+    let t = c .before .before .before .before .before .before .before .before .before .before .before in
+    let i = grantItem diskTable (at (diskOf (d t)) (q t .now)) (asked (diskOf (d t)) (q t)) in
+    step-accepted _ (grantedOf (diskOf (d t)) (q t .now) (asked (diskOf (d t)) (q t))) i [] (granted-outcome t) refl
+    (rw (t .before .before .asked .ensures) at (c .before .before .grant-on .ensures))
+    (shows t (c .before .before .before .before .before .before .before .before .put-answer .ensures))
 
 wait-on-requires : tie.Need-wait-on-requires
 wait-on-requires c κs =
@@ -133,15 +174,15 @@ wait-on-requires c κs =
 put-answer-requires-2 : tie.Need-put-answer-requires-2
 put-answer-requires-2 c κs = search needs
 
-same-length-4 : tie.Need-same-length-4
-same-length-4 c = search needs
+same-length-6 : tie.Need-same-length-6
+same-length-6 c = search needs
 
-same-length-5 : tie.Need-same-length-5
-same-length-5 c = search needs
+same-length-7 : tie.Need-same-length-7
+same-length-7 c = search needs
 
-returns-3 : tie.Need-returns-3
+returns-4 : tie.Need-returns-4
 unfolding answerOf
-returns-3 c =
+returns-4 c =
     let t = c .before .before .before .before .before .before .before .before in
     let u = taken (t .before) in
     let s = u .before .before .before .before .before .before in
@@ -164,13 +205,18 @@ serve-claim-spec =
     same-length
     returns
     asked-requires
-    grant-on-requires
     put-answer-requires
+    is-reading-requires
+    read-on-requires
     same-length-2
     same-length-3
     returns-2
-    wait-on-requires
-    put-answer-requires-2
+    grant-on-requires
     same-length-4
     same-length-5
-    returns-3)
+    returns-3
+    wait-on-requires
+    put-answer-requires-2
+    same-length-6
+    same-length-7
+    returns-4)
