@@ -24,7 +24,8 @@ use Rattle.answer.specs.declared.Refusal.the-variants as R
 use Rattle.answer.specs.Answers.{numberOf, refusalOf, codeOf, answerBytes}
 use Rattle.desk.specs.Record.{kindOf, diskOf, nowOf, callOf, usedLimit, promisedLimit, wellFormed}
 use Rattle.desk.specs.Board.{disks, partAt, partOf, withPart}
-use Rattle.desk.specs.Step.{partFor, answerOf, Told, refusing, serveOf, onPart, opening, onDisk, onBoard, tellOf, stepOf, Stepped, stepped, written}
+use Rattle.part.specs.Held.{partFor}
+use Rattle.desk.specs.Step.{answerOf, Told, refusing, serveOf, onPart, opening, onDisk, onBoard, tellOf, stepOf, Stepped, stepped, written}
 
 -- ---- a lent part
 

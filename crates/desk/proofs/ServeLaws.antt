@@ -37,7 +37,8 @@ use Rattle.answer.specs.declared.Answer.the-variants as A
 use Rattle.answer.specs.declared.Refusal.the-variants as R
 use Rattle.answer.specs.Answers.{numberOf, refusalOf, codeOf, itemBytes, answerBytes}
 use Rattle.answer.specs.AnswerLaws.{one-more}
-use Rattle.desk.specs.Step.{partFor, answerOf, grantOf, soundPart, settled, serveOf, stepped, written}
+use Rattle.part.specs.Held.{partFor, soundPart}
+use Rattle.desk.specs.Step.{answerOf, grantOf, settled, serveOf, stepped, written}
 use Rattle.desk.specs.Record.{kindOf as kindByte, nowOf, askedOf, callOf}
 
 -- ---- outcomes

@@ -3,6 +3,4 @@ pub mod Record
 pub mod Board
 pub mod Step
 pub mod Counts
-pub mod RangeLaws
 pub mod BoardLaws
-pub mod PartLaws

@@ -1,20 +1,18 @@
 -- What a call comes to, from bytes to bytes: lengths (9), record (10), disk (11), open bit (12, 13), the disk's part (14), and on it
 -- the law of one disk (15 to 21, grants and passes).
 use Prim.Native.Nat.{ℕ}
-use mathlib.Core.Bool.{Bool, true, false, cond, _&&_}
+use mathlib.Core.Bool.{cond, _&&_}
 use mathlib.Core.List.{List, [], _∷_, map}
 use mathlib.Core.Path.{_≡_}
 use lib.Dec.{leb, eqb}
 use lib.ListN.{length}
 use Rattle.num.specs.Opened.{openAt, setOpen}
-use Rattle.law.specs.Types.{Disk as LawDisk, Item, Outcome, refused, accepted}
+use Rattle.law.specs.Types.{Item, Outcome, refused, accepted}
 use Rattle.law.specs.Calls.{openDisk}
-use Rattle.law.specs.Sound.{sound}
 use Rattle.law.specs.History.{Call, answered}
 use Rattle.law.specs.DiskType.{diskTable}
 use Rattle.rules.specs.declared.disk.Item.{Item as CodeItem}
-use Rattle.rules.specs.Disks.{diskOf, byValue}
-use Rattle.part.specs.Layout.{decode, encode, decodes}
+use Rattle.part.specs.Held.{held, partFor, soundPart}
 use Rattle.answer.specs.declared.Answer.{Answer}
 use Rattle.answer.specs.declared.Answer.the-variants as A
 use Rattle.answer.specs.declared.Refusal.{Refusal}
@@ -22,20 +20,6 @@ use Rattle.answer.specs.declared.Refusal.the-variants as R
 use Rattle.answer.specs.Answers.{refusalOf, codeOf, answerBytes, answerSize}
 use Rattle.desk.specs.Record.{wellFormed, kindOf, diskOf as diskNumber, nowOf, callOf, usedLimit, promisedLimit}
 use Rattle.desk.specs.Board.{disks, boardBytes, partOf, withPart}
-
--- ---- a part and the disk of the law
-
--- The disk that a part holds.
-abbrev pub held : List ℕ → LawDisk
-held p = diskOf (decode p)
-
--- The part that holds a disk.
-unfoldable pub partFor : LawDisk → List ℕ
-partFor d = encode (byValue d)
-
--- A part is sound: it decodes, and the disk that it holds is sound.
-unfoldable pub soundPart : List ℕ → Bool
-soundPart p = decodes p && sound diskTable (held p)
 
 -- ---- answers
 

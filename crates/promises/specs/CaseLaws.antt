@@ -25,7 +25,8 @@ use Rattle.answer.specs.Answers.{refusalOf}
 use Rattle.desk.specs.Record.{byteAt, wellFormed, kindFits, kindOf, diskOf, nowOf, askedOf, callOf, usedLimit, promisedLimit}
 use Rattle.desk.specs.Board.{disks, boardBytes, partOf, withPart}
 use Rattle.desk.specs.BoardLaws.{with-same}
-use Rattle.desk.specs.Step.{held, partFor, soundPart, Said, refuses, tells, Told, telling, refusing, settled, serveOf, onPart, opening, onDisk, onBoard, tellOf}
+use Rattle.part.specs.Held.{held, partFor, soundPart}
+use Rattle.desk.specs.Step.{Said, refuses, tells, Told, telling, refusing, settled, serveOf, onPart, opening, onDisk, onBoard, tellOf}
 
 -- ---- the cases
 

@@ -26,8 +26,9 @@ use Rattle.answer.specs.declared.Answer.the-variants as A
 use Rattle.answer.specs.Answers.{codeOf, answerBytes, answerSize}
 use Rattle.desk.specs.Record.{byteAt, kindOf as kindByte, diskOf, askedOf, callOf}
 use Rattle.desk.specs.Board.{disks, boardBytes, partOf, withPart}
-use Rattle.desk.specs.Step.{held, partFor, soundPart, answerOf, ownOf, grantsOf, tells, Told, telling, settled, serveOf, onBoard, tellOf, Stepped, written, stepOf}
-use Rattle.desk.specs.PartLaws.{held-part, part-sound}
+use Rattle.part.specs.Held.{held, partFor, soundPart}
+use Rattle.desk.specs.Step.{answerOf, ownOf, grantsOf, tells, Told, telling, settled, serveOf, onBoard, tellOf, Stepped, written, stepOf}
+use Rattle.part.specs.PartLaws.{held-part, part-sound}
 use Rattle.promises.specs.Sentences.{WellFormed}
 use Rattle.promises.specs.RefusalLaws.{says-formed}
 use Rattle.promises.specs.Histories.{Call, BytesIn, stepBy, saidBy, begun, lived}

@@ -25,8 +25,9 @@ use Rattle.answer.specs.AnswerLaws.{number-range}
 use Rattle.desk.specs.Record.{wellFormed, diskOf, nowOf, callOf, usedLimit, promisedLimit}
 use Rattle.desk.specs.Board.{disks, boardBytes, partOf, withPart}
 use Rattle.desk.specs.BoardLaws.{length-with, part-same, part-other, part-open, open-with, byte-before}
-use Rattle.desk.specs.Step.{held, partFor, soundPart, Told, tellOf, written, Stepped, stepped, stepOf}
-use Rattle.desk.specs.PartLaws.{part-sound, sound-held, sound-decodes, length-part-for}
+use Rattle.part.specs.Held.{held, partFor, soundPart}
+use Rattle.desk.specs.Step.{Told, tellOf, written, Stepped, stepped, stepOf}
+use Rattle.part.specs.PartLaws.{part-sound, sound-held, sound-decodes, length-part-for}
 use Rattle.promises.specs.Sentences.{SoundPart}
 use Rattle.promises.specs.Histories.{Call, BytesIn, begun, lived}
 use Rattle.promises.specs.CaseLaws.{Case, isRefused, isOpened, isServed, told-case, call-readable, nowIn, clock-set, call-now, now-fits}

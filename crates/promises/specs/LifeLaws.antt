@@ -26,8 +26,9 @@ use Rattle.answer.specs.Answers.{answerSize}
 use Rattle.desk.specs.Record.{wellFormed, diskOf, nowOf, callOf, usedLimit, promisedLimit}
 use Rattle.desk.specs.Board.{disks, boardBytes, partOf, withPart}
 use Rattle.desk.specs.BoardLaws.{length-with, part-same, part-other, open-with, bytes-with, part-open}
-use Rattle.desk.specs.Step.{held, partFor, Told, tellOf, written, stepOf}
-use Rattle.desk.specs.PartLaws.{held-part, length-part-for, bytes-part-for}
+use Rattle.part.specs.Held.{held, partFor}
+use Rattle.desk.specs.Step.{Told, tellOf, written, stepOf}
+use Rattle.part.specs.PartLaws.{held-part, length-part-for, bytes-part-for}
 use Rattle.promises.specs.Histories.{emptyBoard, Call, BytesIn, stepBy, saidBy, itemsIn, itemsOn, History, begun, after, lived}
 use Rattle.promises.specs.CaseLaws.{Case, isRefused, isOpened, isServed, told-case, call-readable, nowIn, clock-set, call-now, now-fits}
 

@@ -31,8 +31,9 @@ use Rattle.answer.specs.AnswerLaws.{refusal-number, number-range}
 use Rattle.desk.specs.Record.{byteAt, kindOf, diskOf, nowOf, callOf, usedLimit, promisedLimit, unused, kindFits, wellFormed}
 use Rattle.desk.specs.Board.{disks, boardBytes, partOf, withPart}
 use Rattle.desk.specs.BoardLaws.{with-same}
-use Rattle.desk.specs.PartLaws.{sound-decodes, sound-held, sound-part}
-use Rattle.desk.specs.Step.{held, soundPart, answerOf, Said, refuses, tells, ownOf, grantsOf, Told, refusing, settled, serveOf, onPart, opening, onDisk, onBoard, tellOf, Stepped, stepped, written, stepOf}
+use Rattle.part.specs.PartLaws.{sound-decodes, sound-held, sound-part}
+use Rattle.part.specs.Held.{held, soundPart}
+use Rattle.desk.specs.Step.{answerOf, Said, refuses, tells, ownOf, grantsOf, Told, refusing, settled, serveOf, onPart, opening, onDisk, onBoard, tellOf, Stepped, stepped, written, stepOf}
 use Rattle.promises.specs.Sentences.{Unused, KindFits, WellFormed, SoundPart, ruleSentences, sentences}
 
 -- ---- 10: the test of a record says that it is well formed

@@ -13,7 +13,7 @@ use Rattle.law.specs.DiskType.{diskTable}
 use Rattle.part.specs.Layout.{decodes}
 use Rattle.desk.specs.Record.{byteAt, kindOf, diskOf, callOf, usedLimit, promisedLimit}
 use Rattle.desk.specs.Board.{partOf}
-use Rattle.desk.specs.Step.{held}
+use Rattle.part.specs.Held.{held}
 
 -- ---- 10: a well-formed record
 

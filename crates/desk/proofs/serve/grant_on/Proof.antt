@@ -3,7 +3,7 @@ use mathlib.Core.Path.{ap, _∙_}
 use borrow.Author.Needs.{needs}
 use Rattle.rules.specs.AnswerLaws.{by-value}
 use Rattle.part.specs.Layout.{encode}
-use Rattle.desk.specs.Step.{partFor}
+use Rattle.part.specs.Held.{partFor}
 use Rattle.desk.proofs.serve.grant_on.Statement.{statement}
 use Rattle.desk.proofs.serve.grant_on.Tie as tie
 

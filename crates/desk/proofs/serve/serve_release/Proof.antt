@@ -10,7 +10,8 @@ use Rattle.part.specs.Layout.{encode}
 use Rattle.answer.specs.declared.Refusal.{Refusal}
 use Rattle.answer.specs.declared.Answer.the-variants as A
 use Rattle.answer.specs.Answers.{numberOf, answerBytes}
-use Rattle.desk.specs.Step.{partFor, answerOf, grantOf}
+use Rattle.part.specs.Held.{partFor}
+use Rattle.desk.specs.Step.{answerOf, grantOf}
 use Rattle.desk.proofs.ServeLaws.{step-refused, step-accepted, grants-answers, pass-grants, items-few, out, ends, admits-refused, release-ends}
 use Rattle.desk.proofs.serve.serve_release.Statement.{statement}
 use Rattle.desk.proofs.serve.serve_release.Tie as tie

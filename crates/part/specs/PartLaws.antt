@@ -19,10 +19,10 @@ use Rattle.law.specs.DiskType.{diskTable}
 use Rattle.rules.specs.declared.disk.Disk.{Disk}
 use Rattle.rules.specs.Disks.{diskOf, Good, DiskIs, padded, byValue}
 use Rattle.rules.specs.AnswerLaws.{by-value}
 use Rattle.part.specs.Layout.{partBytes, decode, encode, decodes, ClaimFits, ClaimsFit, DiskFits}
 use Rattle.part.specs.LayoutLaws.{length-encode, decode-encode, encode-decode, decode-good, encode-decodes, encode-bytes, decode-fits}
-use Rattle.desk.specs.Step.{held, partFor, soundPart}
-use Rattle.desk.specs.RangeLaws.{active-fits, waiting-fits, attr-fits}
+use Rattle.part.specs.Held.{held, partFor, soundPart}
+use Rattle.part.specs.RangeLaws.{active-fits, waiting-fits, attr-fits}
 
 -- ---- a list of at most eight claims in its array
 
