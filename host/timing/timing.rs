@@ -3,7 +3,7 @@ include!("crates.rs");
 
 use law::Claim;
 use lock::step::decide;
-use rules::calls::{claim, open, release};
+use rules::calls::{claim, judged, open, release};
 use rules::disk::{Asked, Disk};
 use std::hint::black_box;
 use std::time::Instant;
@@ -51,6 +51,13 @@ fn time_claim(name: &str, disk: &Disk, method: u32) {
     });
 }
 
+fn time_judged(name: &str, disk: &Disk, method: u32) {
+    let q = asked(method);
+    time(name, || {
+        black_box(&judged(*black_box(disk), black_box(q)));
+    });
+}
+
 fn time_release(name: &str, disk: &Disk, ticket: u32) {
     assert_eq!(release(*disk, 0, ticket).refusal, 0);
     time(name, || {
@@ -94,7 +101,8 @@ fn main() {
     time_decide("decision, nothing active", &idle, READ_USED);
     time_decide("decision on a reading, 8 readings active", &readings, READ_USED);
     time_decide("decision on an add, 7 adds active", &adds, ADD_PROMISED);
-    time_claim("reading granted, idle disk", &idle, READ_USED);
+    time_judged("reading judged and granted, idle disk", &idle, READ_USED);
+    time_claim("reading granted, idle disk: with the new disk by value", &idle, READ_USED);
     time_claim("add granted, idle disk", &idle, ADD_PROMISED);
     time_claim("add granted, 7 adds active", &adds, ADD_PROMISED);
     time_claim("reading waits, 8 readings active", &readings, READ_USED);
