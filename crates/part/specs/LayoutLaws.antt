@@ -1,6 +1,6 @@
 -- Laws of the layout: a disk put into a part is read back, a part that decodes is put back as it stood, and what decodes is good
 -- and fits.
-use Prim.Native.Nat.{ℕ, _+_, _*_, _-_, _^_, _≤_, _<_}
+use Prim.Native.Nat.{ℕ, zero, suc, _+_, _*_, _-_, _^_, _≤_, _<_}
 use mathlib.Core.Bool.{true}
 use mathlib.Core.List.{List, [], _∷_, _++_, append-assoc, append-nil}
 use mathlib.Core.Path.{_≡_, refl, sym, ap, _∙_}
@@ -9,11 +9,11 @@ use lib.Dec.{leb}
 use lib.ListN.{length, take, drop, getD, set, replicate, length-append, length-drop, length-replicate, take-append-drop}
 use lib.Seq.{length-take-le, drop-drop, take-add, take-all, drop-at, getD-append-add}
 use borrow.Author.Tests.{leb-true}
-use Rattle.num.specs.Word.{wordAt, Bytes}
+use Rattle.num.specs.Word.{wordAt, putWord, Bytes}
 use Rattle.num.specs.WordLaws.{word-at-fits}
 use Rattle.num.specs.Signed.{signedOf, wordOf, signed-word, word-signed, word-fits, signed-fits}
 use Rattle.num.specs.Runs.{le4, flat, splice, allZero}
-use Rattle.num.specs.RunLaws.{length-flat, flat-append, splice-first, splice-second, splice-splice, splice-whole}
+use Rattle.num.specs.RunLaws.{length-le4, length-flat, flat-append, put-splice, splice-first, splice-second, splice-splice, splice-whole}
 use Rattle.law.specs.declared.Attr.{Attr}
 use Rattle.law.specs.declared.Claim.{Claim}
 use Rattle.law.specs.Lists.{Passed, passed, all-passed}
@@ -326,3 +326,51 @@ put-one-claim d clock next n c h =
     (splice-first (inSlots (d .active)) (inSlots (d .waiting)) (44 * n) (flat (claimWords c))
     (omega (arith, length-in-slots (d .active), length-slot c))
     ∙ ap (λ (r : List ℕ). r ++ inSlots (d .waiting)) (put-in-slot (d .active) n c h))
+
+-- ---- a word of the head, and one list, put into the part of a disk
+
+-- A word put among words.
+put-in-words : (ws : List ℕ) (i x : ℕ) → i < length ws → splice (flat ws) (4 * i) (le4 x) ≡ flat (set ws i x)
+unfolding flat
+put-in-words [] i x h = absurd (omega arith)
+put-in-words (w ∷ ws) zero x h =
+    splice-first (le4 w) (flat ws) 0 (le4 x) (omega (arith, length-le4 w, length-le4 x))
+    ∙ ap (λ (r : List ℕ). r ++ flat ws) (splice-whole (le4 w) (le4 x) (length-le4 w ∙ sym (length-le4 x)))
+put-in-words (w ∷ ws) (suc i) x h =
+    let e : 4 * suc i ≡ length (le4 w) + 4 * i = omega (arith, length-le4 w) in
+    ap (λ (k : ℕ). splice (le4 w ++ flat ws) k (le4 x)) e
+    ∙ splice-second (le4 w) (flat ws) (4 * i) (le4 x)
+    ∙ ap (λ (r : List ℕ). le4 w ++ r) (put-in-words ws i x (omega arith))
+
+-- The part of these words and lists.
+abbrev pub partWith : List ℕ → List Claim → List Claim → List ℕ
+partWith ws active waiting = flat ws ++ (inSlots active ++ inSlots waiting)
+
+pub put-head-word : (ws : List ℕ) (active waiting : List Claim) (i x : ℕ) → i < length ws →
+    putWord (partWith ws active waiting) (4 * i) x ≡ partWith (set ws i x) active waiting
+put-head-word ws active waiting i x h =
+    put-splice (partWith ws active waiting) (4 * i) x
+    ∙ splice-first (flat ws) (inSlots active ++ inSlots waiting) (4 * i) (le4 x) (omega (arith, length-flat ws, length-le4 x))
+    ∙ ap (λ (r : List ℕ). r ++ (inSlots active ++ inSlots waiting)) (put-in-words ws i x h)
+
+pub put-active : (ws : List ℕ) (active waiting new : List Claim) → length ws ≡ 16 → length active ≡ length new →
+    splice (partWith ws active waiting) 64 (inSlots new) ≡ partWith ws new waiting
+put-active ws active waiting new n e =
+    let k : 64 ≡ length (flat ws) + 0 = omega (arith, length-flat ws, n) in
+    ap (λ (j : ℕ). splice (partWith ws active waiting) j (inSlots new)) k
+    ∙ splice-second (flat ws) (inSlots active ++ inSlots waiting) 0 (inSlots new)
+    ∙ ap (λ (r : List ℕ). flat ws ++ r)
+    (splice-first (inSlots active) (inSlots waiting) 0 (inSlots new) (omega (arith, length-in-slots active, length-in-slots new, e))
+    ∙ ap (λ (r : List ℕ). r ++ inSlots waiting)
+    (splice-whole (inSlots active) (inSlots new) (omega (arith, length-in-slots active, length-in-slots new, e))))
+
+pub put-waiting-slot : (ws : List ℕ) (active waiting : List Claim) (i : ℕ) (c : Claim) → length ws ≡ 16 → length active ≡ 8 → i < length waiting →
+    splice (partWith ws active waiting) (416 + 44 * i) (flat (claimWords c)) ≡ partWith ws active (set waiting i c)
+put-waiting-slot ws active waiting i c n m h =
+    let e : 416 + 44 * i ≡ length (flat ws) + (length (inSlots active) + 44 * i) =
+    omega (arith, length-flat ws, length-in-slots active) in
+    ap (λ (k : ℕ). splice (partWith ws active waiting) k (flat (claimWords c))) e
+    ∙ splice-second (flat ws) (inSlots active ++ inSlots waiting) (length (inSlots active) + 44 * i) (flat (claimWords c))
+    ∙ ap (λ (r : List ℕ). flat ws ++ r)
+    (splice-second (inSlots active) (inSlots waiting) (44 * i) (flat (claimWords c))
+    ∙ ap (λ (r : List ℕ). inSlots active ++ r) (put-in-slot waiting i c h))

@@ -101,7 +101,7 @@ fn state_at(s: &[u8], at: usize) -> Attr
 }
 
 // The claims of eight slots.
-fn claims_at(s: &[u8], at: usize) -> [Claim; 8]
+pub fn claims_at(s: &[u8], at: usize) -> [Claim; 8]
     requires { ⌜ at + 352 ≤ length (now s) ⌝ }
     ensures { λ r. ⌜ r ≡ slots 8 (drop at (now (s .entry))) ⌝ }
 {

@@ -49,7 +49,7 @@ fn head_words(d: Disk) -> [u32; 16]
 }
 
 // Puts claims into their slots, one behind the other.
-fn put_claims(s: &mut [u8], at: usize, cs: [Claim; 8])
+pub fn put_claims(s: &mut [u8], at: usize, cs: [Claim; 8])
     requires { ⌜ at + 352 ≤ length (now s) ⌝ }
     ensures { λ _. ⌜ now (s .exit) ≡ splice (now (s .entry)) at (inSlots cs) ⌝ }
 {
@@ -62,7 +62,7 @@ fn put_claims(s: &mut [u8], at: usize, cs: [Claim; 8])
 }
 
 // Puts a claim into its slot.
-fn put_claim(s: &mut [u8], at: usize, c: Claim)
+pub fn put_claim(s: &mut [u8], at: usize, c: Claim)
     requires { ⌜ at + 44 ≤ length (now s) ⌝ }
     ensures { λ _. ⌜ now (s .exit) ≡ splice (now (s .entry)) at (flat (claimWords c)) ⌝ }
 {

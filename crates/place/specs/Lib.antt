@@ -1,0 +1,2 @@
+-- The disk that a change leaves.
+pub mod Moves
