@@ -161,10 +161,10 @@ pub fn serve(part: &mut [u8], r: &[u8], answer: &mut [u8]) -> u32
     if !decodes(part) {
         return refuse(answer, Refusal::Unsound);
     }
-    let d = disk_of(part);
-    if !is_sound(d) {
+    if !is_sound(part) {
         return refuse(answer, Refusal::Unsound);
     }
+    let d = disk_of(part);
     if r[2] == 2 {
         return serve_claim(part, d, asked_in(r), answer);
     }

@@ -1,14 +1,17 @@
-// The soundness test in code: whether a disk, whatever numbers it holds, is sound as 01 has it. Nothing
+// The soundness test in code: whether the disk of a part, whatever numbers it holds, is sound as 01 has it. Nothing
 // is indexed or summed up before it is in range: a method that there is not has the table's first index.
 
 mod alone;
 mod figures;
 mod pairs;
 
+ghost use mathlib.Core.Bool.{true};
 ghost use mathlib.Core.Path.{_≡_};
+ghost use lib.ListN.{length};
 ghost use Rattle.law.specs.Sound.{sound};
 ghost use Rattle.law.specs.DiskType.{diskTable};
-ghost use Rattle.rules.specs.Disks.{diskOf, Good};
+ghost use Rattle.rules.specs.Disks.{diskOf};
+ghost use Rattle.part.specs.Layout.{decode, decodes};
 use crate::alone::active_fits;
 use crate::alone::waiting_fits;
 use crate::figures::figures_fit;
@@ -18,39 +21,45 @@ use lock::method::TABLE;
 use lock::step::add_part;
 use lock::step::index_of;
 use num::signed::size;
-use rules::disk::Disk;
+use num::word::word_at;
+use part::read::active_at;
+use part::read::code_at;
+use part::read::promised_at;
+use part::read::used_at;
+use part::read::waiting_at;
 
 const MOST_VALUE: u32 = 1000000000;
 
-// Whether the disk is sound, clause by clause as 01 has it: the figures; each active claim by itself, with each active
-// one behind it and with each waiting one; each waiting claim by itself and with each behind it; |promised| with the |d|
-// of the active adds. The walks stand in one function: a call with the disk would copy it.
-pub fn is_sound(d: Disk) -> bool
-    requires { ⌜ Good d ⌝ }
-    ensures { λ r. ⌜ r ≡ sound diskTable (diskOf d) ⌝ }
+// Whether the disk of a part that decodes is sound, clause by clause as 01 has it: the figures; each active claim by
+// itself, with each active one behind it and with each waiting one; each waiting claim by itself and with each behind it;
+// |promised| with the |d| of the active adds. The claims are read where they stand: a disk by value would be copied.
+pub fn is_sound(s: &[u8]) -> bool
+    requires { ⌜ length (now s) ≡ 768 ⌝ }
+    requires { ⌜ decodes (now s) ≡ true ⌝ }
+    ensures { λ r. ⌜ r ≡ sound diskTable (diskOf (decode (now (s .entry)))) ⌝ }
 {
     let table = TABLE;
-    let n = d.actives as usize;
-    let m = d.waitings as usize;
-    let clock = d.clock;
-    let next = d.next;
-    let used = d.used;
-    let promised = d.promised;
-    let state = d.state;
+    let clock = word_at(s, 0);
+    let next = word_at(s, 4);
+    let n = word_at(s, 8) as usize;
+    let m = word_at(s, 12) as usize;
+    let used = used_at(s);
+    let promised = promised_at(s);
+    let state = code_at(s);
     if !figures_fit(used, promised, state, clock, next) {
         return false;
     }
     let mut adds: u64 = 0;
     let mut i: usize = 0;
     while i < n {
-        let x = d.active[i];
+        let x = active_at(s, i);
         if !active_fits(x, clock, next, used, promised, state) {
             return false;
         }
         let row = index_of(x.method);
         let mut j: usize = i + 1;
         while j < n {
-            let y = d.active[j];
+            let y = active_at(s, j);
             let col = index_of(y.method);
             let found = table[row][col];
             if !meets(x, y, found) {
@@ -60,7 +69,7 @@ pub fn is_sound(d: Disk) -> bool
         }
         let mut k: usize = 0;
         while k < m {
-            let w = d.waiting[k];
+            let w = waiting_at(s, k);
             if x.ticket == w.ticket {
                 return false;
             }
@@ -71,13 +80,13 @@ pub fn is_sound(d: Disk) -> bool
     }
     let mut h: usize = 0;
     while h < m {
-        let v = d.waiting[h];
+        let v = waiting_at(s, h);
         if !waiting_fits(v, clock, next, used, promised, state) {
             return false;
         }
         let mut l: usize = h + 1;
         while l < m {
-            let w = d.waiting[l];
+            let w = waiting_at(s, l);
             if !follows(v, w) {
                 return false;
             }
