@@ -2,6 +2,7 @@
 // writes nothing to the part.
 
 ghost use mathlib.Core.Path.{_≡_};
+ghost use mathlib.Core.Bool.{true};
 ghost use mathlib.Core.List.{[], _∷_, map};
 ghost use Prim.Native.Nat.{_+_, _*_, _≤_, _<_};
 ghost use lib.ListN.{length, take};
@@ -13,11 +14,11 @@ ghost use Rattle.law.specs.DiskType.{diskTable};
 ghost use Rattle.rules.specs.Disks.{diskOf, Good};
 ghost use Rattle.rules.specs.Answers.{askedOf, TakesGrant, ItemsAre, grantedOf, waitingOf};
 ghost use Rattle.num.specs.Runs.{flat, splice};
-ghost use Rattle.part.specs.Layout.{claimWords, encode};
+ghost use Rattle.part.specs.Layout.{claimWords, decode, encode, decodes};
 ghost use Rattle.answer.specs.declared.Answer.the-variants.{Refused};
 ghost use Rattle.answer.specs.Answers.{numberOf, answerBytes};
 ghost use Rattle.desk.specs.Record.{callOf};
-ghost use Rattle.part.specs.Held.{partFor};
+ghost use Rattle.part.specs.Held.{held, partFor};
 ghost use Rattle.desk.specs.Step.{grantOf, Behind, settled, serveOf, stepped, written};
 use crate::record::asked_in;
 use answer::Answer;
@@ -26,6 +27,7 @@ use answer::number;
 use answer::put_answer;
 use answer::put_grant;
 use answer::refusal_of;
+use judge::judged;
 use law::Claim;
 use lock::method::is_reading;
 use num::word::word_at;
@@ -35,7 +37,6 @@ use part::write::put_disk;
 use part::write::put_granted;
 use rules::calls::asked;
 use rules::calls::granting;
-use rules::calls::judged;
 use rules::calls::release;
 use rules::calls::waits;
 use rules::disk::Asked;
@@ -66,51 +67,52 @@ fn read_on(part: &mut [u8], second: u32, n: u32, c: Claim, own: Item)
     put_granted(part, second, c.ticket + 1, n, g);
 }
 
-// The claim c granted, on the part that holds d.
-fn grant_on(part: &mut [u8], d: Disk, second: u32, c: Claim, total: u32)
+// The claim c granted, on a part.
+fn grant_on(part: &mut [u8], second: u32, c: Claim, total: u32)
     requires { ⌜ length (now part) ≡ 768 ⌝ }
-    requires { ⌜ TakesGrant d second c total ⌝ }
-    ensures { λ _. ⌜ now (part .exit) ≡ partFor (grantedOf (diskOf d) second c) ⌝ }
+    requires { ⌜ TakesGrant (decode (now part)) second c total ⌝ }
+    ensures { λ _. ⌜ now (part .exit) ≡ partFor (grantedOf (held (now (part .entry))) second c) ⌝ }
 {
+    let d = disk_of(part);
     put_disk(part, granting(d, second, c, total));
 }
 
-// The claim c waiting, on the part that holds d.
-fn wait_on(part: &mut [u8], d: Disk, second: u32, c: Claim)
+// The claim c waiting, on a part.
+fn wait_on(part: &mut [u8], second: u32, c: Claim)
     requires { ⌜ length (now part) ≡ 768 ⌝ }
-    requires { ⌜ Good d ⌝ }
-    requires { ⌜ d .waitings < 8 ⌝ }
+    requires { ⌜ Good (decode (now part)) ⌝ }
+    requires { ⌜ decode (now part) .waitings < 8 ⌝ }
     requires { ⌜ c .ticket ≤ 999_999 ⌝ }
-    ensures { λ _. ⌜ now (part .exit) ≡ partFor (waitingOf (diskOf d) second c) ⌝ }
+    ensures { λ _. ⌜ now (part .exit) ≡ partFor (waitingOf (held (now (part .entry))) second c) ⌝ }
 {
+    let d = disk_of(part);
     put_disk(part, waits(d, second, c));
 }
 
-// A claim on the part that holds the sound disk d.
-fn serve_claim(part: &mut [u8], d: Disk, q: Asked, answer: &mut [u8]) -> u32
-    requires { ⌜ now part ≡ encode d ⌝ }
+// A claim on a sound part.
+fn serve_claim(part: &mut [u8], q: Asked, answer: &mut [u8]) -> u32
     requires { ⌜ length (now part) ≡ 768 ⌝ }
+    requires { ⌜ decodes (now part) ≡ true ⌝ }
+    requires { ⌜ Sound diskTable (held (now part)) ⌝ }
     requires { ⌜ length (now answer) ≡ 144 ⌝ }
-    requires { ⌜ Good d ⌝ }
-    requires { ⌜ Sound diskTable (diskOf d) ⌝ }
-    ensures { λ n. ⌜ stepped n (now (part .exit)) (now (answer .exit)) ≡ written (settled (now (part .entry)) (lawClaim diskTable (diskOf d) (askedOf q))) ⌝ }
+    ensures { λ n. ⌜ stepped n (now (part .exit)) (now (answer .exit)) ≡ written (settled (now (part .entry)) (lawClaim diskTable (held (now (part .entry))) (askedOf q))) ⌝ }
 {
-    let j = judged(d, q);
+    let j = judged(part, q);
     let own = j.own;
     if j.refusal != 0 {
         return refuse(answer, refusal_of(j.refusal));
     }
-    let c = asked(q, d.next);
+    let c = asked(q, word_at(part, 4));
     if own.code == 0 {
         put_answer(answer, Answer::Granted(own.ticket, own.told, own.amount));
         if is_reading(q.method) {
-            read_on(part, q.now, d.actives, c, own);
+            read_on(part, q.now, word_at(part, 8), c, own);
             return 0;
         }
-        grant_on(part, d, q.now, c, own.amount);
+        grant_on(part, q.now, c, own.amount);
         return 0;
     }
-    wait_on(part, d, q.now, c);
+    wait_on(part, q.now, c);
     put_answer(answer, Answer::Waits(own.ticket));
     1
 }
@@ -164,9 +166,9 @@ pub fn serve(part: &mut [u8], r: &[u8], answer: &mut [u8]) -> u32
     if !is_sound(part) {
         return refuse(answer, Refusal::Unsound);
     }
-    let d = disk_of(part);
     if r[2] == 2 {
-        return serve_claim(part, d, asked_in(r), answer);
+        return serve_claim(part, asked_in(r), answer);
     }
+    let d = disk_of(part);
     serve_release(part, d, word_at(r, 8), word_at(r, 12), answer)
 }

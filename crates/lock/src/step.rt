@@ -65,7 +65,7 @@ pub fn entry(row: u32, col: u32, found: Entry) -> Entry
 }
 
 // Whether one active claim lets the requested one pass, which raises a reading's amount by so much.
-fn lets(e: Entry, reading: bool, amount: u32, most: u32, raise: u64) -> bool
+pub fn lets(e: Entry, reading: bool, amount: u32, most: u32, raise: u64) -> bool
     requires { ⌜ raise ≤ 8589934590 ⌝ }
     ensures { λ r. ⌜ r ≡ letsBy e reading amount most raise ⌝ }
 {
@@ -78,7 +78,15 @@ fn lets(e: Entry, reading: bool, amount: u32, most: u32, raise: u64) -> bool
 }
 
 // What the active claim x adds to the total of the requested claim c.
-fn cost(e: Entry, reading: bool, c: Claim, x: Claim, used: Attr, promised: Attr, state: Attr) -> u64
+pub fn cost(
+    e: Entry,
+    reading: bool,
+    c: Claim,
+    x: Claim,
+    used: Attr,
+    promised: Attr,
+    state: Attr,
+) -> u64
     ensures { λ r. ⌜ r ≡ costBetween (figuresOf used promised state) e reading c x ⌝ }
     ensures { λ r. ⌜ r ≤ 4294967295 ⌝ }
 {
@@ -115,7 +123,7 @@ fn is_always(e: Entry) -> bool
 }
 
 // Whether the waiting claim w bars one of a priority, by their entry.
-fn bars(
+pub fn bars(
     w: Claim,
     e: Entry,
     priority: u32,

@@ -162,7 +162,7 @@ pub struct Judgement {
 }
 
 // A refused judgement.
-fn unjudged(number: u32) -> Judgement
+pub fn unjudged(number: u32) -> Judgement
     ensures { λ r. ⌜ r ≡ shownBy (lawRefused number) ⌝ }
 {
     Judgement {

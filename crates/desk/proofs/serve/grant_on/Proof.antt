@@ -1,28 +1,35 @@
 -- The granted disk by value is the law's, so its part is the law's.
 use mathlib.Core.Path.{ap, _∙_}
 use borrow.Author.Needs.{needs}
+use Rattle.rules.specs.declared.disk.Disk.{Disk}
+use Rattle.rules.specs.Answers.{grantedOf}
+use Rattle.rules.specs.Disks.{diskOf}
 use Rattle.rules.specs.AnswerLaws.{by-value}
 use Rattle.part.specs.Layout.{encode}
 use Rattle.part.specs.Held.{partFor}
 use Rattle.desk.proofs.serve.grant_on.Statement.{statement}
 use Rattle.desk.proofs.serve.grant_on.Tie as tie
 
--- src/serve.rt:57:20
-granting-requires : tie.Need-granting-requires
-granting-requires c κs = search needs
+disk-of-requires : tie.Need-disk-of-requires
+disk-of-requires c κs = search needs
 
--- src/serve.rt:57:5
+granting-requires : tie.Need-granting-requires
+granting-requires c κs = rw (c .before .disk-of .ensures) (c .before .before .before .before .pre .1)
+
 put-disk-requires : tie.Need-put-disk-requires
 put-disk-requires c κs = search needs
 
--- src/serve.rt:52:1
 same-length : tie.Need-same-length
 same-length c = search needs
 
--- src/serve.rt:52:1
 returns : tie.Need-returns
 unfolding partFor
-returns c = c .before .before .put-disk .ensures ∙ ap encode (by-value (c .before .before .before .granting .ensures))
+returns c =
+    let a = c .before .before .before .before .before .before .before .before .args in
+    c .before .before .put-disk .ensures
+    ∙ ap encode (by-value (c .before .before .before .granting .ensures))
+    ∙ ap (λ (x : Disk). partFor (grantedOf (diskOf x) (a .second) (a .c))) (c .before .before .before .before .before .disk-of .ensures)
 
 pub grant-on-spec : {M : Type 1} → statement M
-grant-on-spec = tie.close (tie.spec granting-requires put-disk-requires same-length returns)
+grant-on-spec =
+    tie.close (tie.spec disk-of-requires granting-requires put-disk-requires same-length returns)

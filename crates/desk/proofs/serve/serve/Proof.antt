@@ -6,8 +6,9 @@ use borrow.Author.Tests.{not-true, not-false}
 use Rattle.law.specs.SoundTest.{says-sound}
 use Rattle.law.specs.DiskType.{diskTable}
 use Rattle.law.specs.Sound.{sound}
-use Rattle.rules.specs.Disks.{diskOf, Good}
-use Rattle.part.specs.Layout.{decodes, encode}
+use Rattle.rules.specs.declared.disk.Disk.{Disk}
+use Rattle.rules.specs.Disks.{diskOf}
+use Rattle.part.specs.Layout.{decode, decodes, encode}
 use Rattle.part.specs.LayoutLaws.{encode-decode, decode-good}
 use Rattle.desk.specs.Record.{callOf}
 use Rattle.desk.proofs.ServeLaws.{serve-undecoded, serve-unsound, serve-claims, serve-releases}
@@ -19,18 +20,8 @@ whole : (b : tie.Else1) → decodes (b .before .before .before .before .before .
 whole b = sym (b .before .decodes .ensures) ∙ not-false _ (b .if1 .left)
 
 -- The disk that it holds is sound.
-holds : (k : tie.After-disk-of) → sound diskTable (diskOf (k .disk-of .result)) ≡ true
-holds k = rw (k .disk-of .ensures) (sym (k .before .before .before .is-sound .ensures) ∙ not-false _ (k .before .before .if2 .left))
-
--- So the part is that disk's.
-kept : (k : tie.After-disk-of) → k .before .before .before .before .before .before .before .before .before .before .before .args .part .now ≡ encode (k .disk-of .result)
-kept k =
-    let z = k .before .before .before .before .before .before .before .before .before .before .before in
-    sym (encode-decode (z .args .part .now) (λ i. k .before .before .before .before .before .before .before .before .before .before .slice-known .given i .fits) (z .pre .0) (whole (k .before .before .before .before .before)))
-    ∙ ap encode (sym (k .disk-of .ensures))
-
-good : (k : tie.After-disk-of) → Good (k .disk-of .result)
-good k = rw (k .disk-of .ensures) (decode-good (k .before .before .before .before .before .before .before .before .before .before .before .args .part .now) (k .before .before .before .before .before .before .before .before .before .before .before .pre .0) (whole (k .before .before .before .before .before)))
+holds : (b : tie.Else2) → sound diskTable (diskOf (decode (b .before .before .before .before .before .before .before .before .before .args .part .now))) ≡ true
+holds b = sym (b .before .is-sound .ensures) ∙ not-false _ (b .if2 .left)
 
 decodes-requires : tie.Need-decodes-requires
 decodes-requires c κs = search needs
@@ -47,8 +38,8 @@ same-length-2 c = search needs
 returns : tie.Need-returns
 returns c =
     let e = c .before .before .refuse .ensures in
-    let k = c .before .before .before .before .before in
-    serve-undecoded (k .before .before .before .before .before .args .part .now) (callOf (k .before .before .before .before .before .args .r .now)) (sym (k .decodes .ensures) ∙ not-true _ (c .before .before .before .before .if1 .taken)) (e .0) (e .1)
+    let s = c .before .before .before .before .before .before .before .before .before .before .args in
+    serve-undecoded (s .part .now) (callOf (s .r .now)) (sym (c .before .before .before .before .before .decodes .ensures) ∙ not-true _ (c .before .before .before .before .if1 .taken)) (e .0) (e .1)
 
 is-sound-requires : tie.Need-is-sound-requires
 is-sound-requires c κs = (c .before .before .before .before .before .before .before .pre .0, whole (c .before))
@@ -65,13 +56,9 @@ same-length-4 c = search needs
 returns-2 : tie.Need-returns-2
 returns-2 c =
     let e = c .before .before .refuse2 .ensures in
-    let b = c .before .before .before .before .before .before .before in
-    let a = b .before .before .before .before .before .before .args in
-    serve-unsound (a .part .now) (whole b) refl (callOf (a .r .now))
+    let s = c .before .before .before .before .before .before .before .before .before .before .before .before .before .args in
+    serve-unsound (s .part .now) (whole (c .before .before .before .before .before .before .before)) {d = decode (s .part .now)} refl (callOf (s .r .now))
     (sym (c .before .before .before .before .before .is-sound .ensures) ∙ not-true _ (c .before .before .before .before .if2 .taken)) (e .0) (e .1)
-
-disk-of-requires : tie.Need-disk-of-requires
-disk-of-requires c κs = search needs
 
 shared-slice-read-if3 : tie.Need-shared-slice-read-if3
 shared-slice-read-if3 c = search needs
@@ -81,9 +68,8 @@ asked-in-requires c κs = search needs
 
 serve-claim-requires : tie.Need-serve-claim-requires
 serve-claim-requires c κs =
-    let k = c .before .before .before .before .before in
-    let p = k .before .before .before .before .before .before .before .before .before .before .before .pre in
-    (kept k, (p .0, (p .1 .1, (good k, says-sound diskTable (diskOf (k .disk-of .result)) .0 (holds k)))))
+    let s = c .before .before .before .before .before .before .before .before .before .before .before .before .before .before in
+    (s .pre .0, (whole (c .before .before .before .before .before .before .before .before), (says-sound diskTable (diskOf (decode (s .args .part .now))) .0 (holds (c .before .before .before .before .before)), s .pre .1 .1)))
 
 same-length-5 : tie.Need-same-length-5
 same-length-5 c = search needs
@@ -93,10 +79,12 @@ same-length-6 c = search needs
 
 returns-3 : tie.Need-returns-3
 returns-3 c =
-    let k = c .before .before .before .before .before .before .before .before .before .before in
-    let a = k .before .before .before .before .before .before .before .before .before .before .before .args in
-    serve-claims (a .part .now) (whole (k .before .before .before .before .before)) (k .disk-of .ensures) (holds k) (a .r .now)
+    let s = c .before .before .before .before .before .before .before .before .before .before .before .before .before .before .before .before .before .before .before .args in
+    serve-claims (s .part .now) (whole (c .before .before .before .before .before .before .before .before .before .before .before .before .before)) {d = decode (s .part .now)} refl (holds (c .before .before .before .before .before .before .before .before .before .before)) (s .r .now)
     (c .before .before .before .before .before .before .asked-in .ensures) (c .before .before .before .before .before .before .before .before .if3 .taken) (c .before .before .before .before .serve-claim .ensures)
+
+disk-of-requires : tie.Need-disk-of-requires
+disk-of-requires c κs = search needs
 
 word-at-requires : tie.Need-word-at-requires
 word-at-requires c κs = search needs
@@ -106,9 +94,16 @@ word-at-requires-2 c κs = search needs
 
 serve-release-requires : tie.Need-serve-release-requires
 serve-release-requires c κs =
-    let k = c .before .before .before .before .before .before in
-    let p = k .before .before .before .before .before .before .before .before .before .before .before .pre in
-    (kept k, (p .0, (p .1 .1, (good k, says-sound diskTable (diskOf (k .disk-of .result)) .0 (holds k)))))
+    let s = c .before .before .before .before .before .before .before .before .before .before .before .before .before .before .before .before .before in
+    let p = s .args .part .now in
+    let e = c .before .before .before .before .disk-of .ensures in
+    let w = whole (c .before .before .before .before .before .before .before .before .before .before .before) in (
+      sym (encode-decode p (λ i. c .before .before .before .before .before .before .before .before .before .before .before .before .before .before .before .before .slice-known .given i .fits) (s .pre .0) w) ∙ ap encode (sym e),
+      (
+        s .pre .0,
+        (s .pre .1 .1, (rw e (decode-good p (s .pre .0) w), rw e (says-sound diskTable (diskOf (decode p)) .0 (holds (c .before .before .before .before .before .before .before .before))))),
+      ),
+    )
 
 same-length-7 : tie.Need-same-length-7
 same-length-7 c = search needs
@@ -118,10 +113,10 @@ same-length-8 c = search needs
 
 returns-4 : tie.Need-returns-4
 returns-4 c =
-    let k = c .before .before .before .before .before .before .before .before .before .before .before in
-    let a = k .before .before .before .before .before .before .before .before .before .before .before .args in
-    serve-releases (a .part .now) (whole (k .before .before .before .before .before)) (k .disk-of .ensures) (holds k) (a .r .now)
-    (c .before .before .before .before .before .before .before .word-at .ensures) (c .before .before .before .before .before .before .word-at2 .ensures) (c .before .before .before .before .before .before .before .before .before .if3 .left) (c .before .before .before .before .serve-release .ensures)
+    let s = c .before .before .before .before .before .before .before .before .before .before .before .before .before .before .before .before .before .before .before .before .before .before .args in
+    let e = c .before .before .before .before .before .before .before .before .before .disk-of .ensures in
+    serve-releases (s .part .now) (whole (c .before .before .before .before .before .before .before .before .before .before .before .before .before .before .before .before)) e (ap (λ (x : Disk). sound diskTable (diskOf x)) e ∙ holds (c .before .before .before .before .before .before .before .before .before .before .before .before .before)) (s .r .now)
+    (c .before .before .before .before .before .before .before .word-at .ensures) (c .before .before .before .before .before .before .word-at2 .ensures) (c .before .before .before .before .before .before .before .before .before .before .before .if3 .left) (c .before .before .before .before .serve-release .ensures)
 
 pub serve-spec : {M : Type 1} → statement M
 serve-spec =
@@ -137,13 +132,13 @@ serve-spec =
     same-length-3
     same-length-4
     returns-2
-    disk-of-requires
     shared-slice-read-if3
     asked-in-requires
     serve-claim-requires
     same-length-5
     same-length-6
     returns-3
+    disk-of-requires
     word-at-requires
     word-at-requires-2
     serve-release-requires

@@ -1,5 +1,5 @@
 -- What is judged says which of the law's outcomes it is; part and answer are that outcome's.
-use Prim.Native.Nat.{ℕ}
+use Prim.Native.Nat.{ℕ, _+_, _*_}
 use mathlib.Core.List.{List, [], _∷_}
 use mathlib.Core.Path.{_≡_, refl, sym, ap, _∙_}
 use native.Mathlib.Omega.{arith}
@@ -11,15 +11,20 @@ use mir.Val.{toZ, ofZ}
 use Rattle.num.specs.Fits.{size-fits}
 use Rattle.num.specs.Metric.{size}
 use Rattle.claims.specs.RowLaws.{row-length}
-use Rattle.law.specs.Types.{Asked as LawAsked, Outcome, refused, accepted}
-use Rattle.law.specs.Granting.{grantItem}
+use Rattle.law.specs.declared.Claim.{Claim}
+use Rattle.law.specs.Types.{claimOf, Asked as LawAsked, Outcome, refused, accepted}
+use Rattle.law.specs.Granting.{putTold, grantItem}
 use Rattle.law.specs.Calls.{asked, at, item, claim}
 use Rattle.law.specs.DiskType.{diskTable}
 use Rattle.rules.specs.declared.disk.Disk.{Disk}
 use Rattle.rules.specs.declared.disk.Item.{Item}
 use Rattle.rules.specs.declared.calls.Judgement.{Judgement}
 use Rattle.rules.specs.Answers.{askedOf, shownBy, TakesGrant, grantedOf, waitingOf}
-use Rattle.rules.specs.Disks.{diskOf}
+use Rattle.rules.specs.Disks.{diskOf, Good}
+use Rattle.num.specs.Runs.{flat, splice}
+use Rattle.part.specs.Held.{partFor}
+use Rattle.part.specs.Layout.{claimWords, decode}
+use Rattle.part.specs.LayoutLaws.{encode-decode, decode-good}
 use Rattle.rules.proofs.CallLaws.{claim-granted, claim-waits, shown-refused, shown-passed, shown-granted, shown-later, shown-place, ticket-fits, takes-grant}
 use Rattle.answer.specs.declared.Refusal.{Refusal}
 use Rattle.answer.specs.declared.Answer.the-variants as A
@@ -29,17 +34,29 @@ use Rattle.desk.proofs.ServeLaws.{step-refused, step-accepted, read-par
 use Rattle.desk.proofs.serve.serve_claim.Statement.{statement}
 use Rattle.desk.proofs.serve.serve_claim.Tie as tie
 
+-- The disk of the part.
+abbrev disk : tie.Start → Disk
+disk s = decode (s .args .part .now)
+
+good : (s : tie.Start) → Good (disk s)
+good s = decode-good (s .args .part .now) (s .pre .0) (s .pre .1 .0)
+
 -- The law's outcome.
 abbrev law : tie.After-judged → Outcome
-law k = claim diskTable (diskOf (k .before .before .before .args .d)) (askedOf (k .before .before .before .args .q))
+law k = claim diskTable (diskOf (disk (k .before .before .before .before))) (askedOf (k .before .before .before .before .args .q))
 
 -- Nothing refuses.
 accepts : (c : tie.Else1) → shownBy (law (c .before .before .before)) .refusal ≡ 0
 accepts c = sym (ap (λ (j : Judgement). j .refusal) (c .before .before .before .judged .ensures)) ∙ c .if1 .left
 
+-- The claim is that of the next ticket.
+claim-is : (a : tie.After-asked) → a .asked .result ≡ asked (diskOf (disk (a .before .before .before .before .before .before .before .before .before .before))) (askedOf (a .before .before .before .before .before .before .before .before .before .before .args .q))
+unfolding decode
+claim-is a = a .asked .ensures ∙ ap (claimOf (askedOf (a .before .before .before .before .before .before .before .before .before .before .args .q))) (a .before .word-at .ensures)
+
 -- The branch of the decision.
 abbrev taken : tie.After-struct-known2 → tie.Else1
-taken c = c .before .before
+taken c = c .before .before .before .before
 
 code : (c : tie.After-struct-known2) → taken c .before .before .before .judged .result .own .code ≡ shownBy (law (taken c .before .before .before)) .own .code
 code c = ap (λ (j : Judgement). j .own .code) (taken c .before .before .before .judged .ensures)
@@ -49,10 +66,10 @@ module _ (c : tie.Then2) where
   k = taken (c .before) .before .before .before
 
   abbrev d : Disk
-  d = k .before .before .before .args .d
+  d = disk (k .before .before .before .before)
 
   abbrev q : LawAsked
-  q = askedOf (k .before .before .before .args .q)
+  q = askedOf (k .before .before .before .before .args .q)
 
   granted-outcome : law k ≡ accepted (grantedOf (diskOf d) (q .now) (asked (diskOf d) q)) (grantItem diskTable (at (diskOf d) (q .now)) (asked (diskOf d) q) ∷ [])
   granted-outcome =
@@ -62,7 +79,7 @@ module _ (c : tie.Then2) where
   granted-takes : TakesGrant d (q .now) (asked (diskOf d) q) (k .judged .result .own .amount)
   unfolding grantItem
   granted-takes =
-      takes-grant d q (k .judged .result .own .amount) (k .before .before .before .pre .1 .1 .1 .0) (k .before .before .before .pre .1 .1 .1 .1)
+      takes-grant d q (k .judged .result .own .amount) (good (k .before .before .before .before)) (k .before .before .before .before .pre .1 .1 .0)
       (shown-passed (diskOf d) q (accepts (taken (c .before))))
       (shown-granted (diskOf d) q (accepts (taken (c .before))) (sym (code (c .before)) ∙ c .if2 .taken))
       (ap (λ (j : Judgement). j .own .amount) (k .judged .ensures ∙ ap shownBy granted-outcome))
@@ -90,10 +107,13 @@ refusal-of-requires : tie.Need-refusal-of-requires
 refusal-of-requires c κs = search needs
 
 refuse-requires : tie.Need-refuse-requires
-refuse-requires c κs = search needs
+refuse-requires c κs = c .before .before .before .before .before .before .before .before .before .pre .1 .1 .1
 
 same-length : tie.Need-same-length
 same-length c = search needs
+
+same-length-2 : tie.Need-same-length-2
+same-length-2 c = search needs
 
 returns : tie.Need-returns
 returns c =
@@ -104,47 +124,63 @@ returns c =
     step-refused _ (k .judged .result .refusal) (shown-refused (law k) (λ z. c .before .before .before .before .before .if1 .taken (n ∙ z)) ∙ ap refused (sym n))
     (e .0 ∙ ap numberOf r) (e .1 ∙ ap (λ (x : Refusal). answerBytes (A.Refused x) []) r)
 
+word-at-requires : tie.Need-word-at-requires
+word-at-requires c κs = search needs
+
 asked-requires : tie.Need-asked-requires
 asked-requires c κs = search needs
 
 put-answer-requires : tie.Need-put-answer-requires
-put-answer-requires c κs = search needs
+put-answer-requires c κs = c .before .before .before .before .before .before .before .before .before .before .before .before .before .before .pre .1 .1 .1
 
 is-reading-requires : tie.Need-is-reading-requires
 is-reading-requires c κs = search needs
 
-read-on-requires : tie.Need-read-on-requires
-read-on-requires c κs =
-    let t = c .before .before .before .before .before .before .before .before in
-    let s = c .before .before .before .before .before .before .before .before .before .before .before .before .before .before .before .before .before in
-    rw (c .before .before .before .before .before .before .before .before .before .before .asked .ensures)
-    (s .pre .1 .0, (omega (arith, granted-takes t .may .place, row-length (s .pre .1 .1 .1 .0 .active)), granted-takes t .ticket))
+word-at-requires-2 : tie.Need-word-at-requires-2
+word-at-requires-2 c κs = search needs
 
-same-length-2 : tie.Need-same-length-2
-same-length-2 c = search needs
+read-on-requires : tie.Need-read-on-requires
+unfolding decode
+read-on-requires c κs =
+    let t = c .before .before .before .before .before .before .before .before .before .before in
+    let s = c .before .before .before .before .before .before .before .before .before .before .before .before .before .before .before .before .before .before .before .before .before .before in
+    rw (claim-is (c .before .before .before .before .before .before .before .before .before .before .before .before))
+    (s .pre .0, (omega (arith, c .word-at2 .ensures, granted-takes t .may .place, row-length (good s .active)), granted-takes t .ticket))
 
 same-length-3 : tie.Need-same-length-3
 same-length-3 c = search needs
 
-returns-2 : tie.Need-returns-2
-unfolding answerOf grantItem
-returns-2 c =
-    let t = c .before .before .before .before .before .before .before .before .before .before .before in
-    let i = grantItem diskTable (at (diskOf (d t)) (q t .now)) (asked (diskOf (d t)) (q t)) in
-    step-accepted _ (grantedOf (diskOf (d t)) (q t .now) (asked (diskOf (d t)) (q t))) i [] (granted-outcome t) refl
-    ((rw (t .before .before .asked .ensures) at (c .before .before .read-on .ensures))
-    ∙ read-part (d t) (q t .now) (asked (diskOf (d t)) (q t)) (granted-takes t) (sym (c .before .before .before .before .before .is-reading .ensures) ∙ c .before .before .before .before .if3 .taken)
-    (ap (λ (j : Judgement). j .own .told) (k t .judged .ensures ∙ ap shownBy (granted-outcome t))) (k t .before .before .before .pre .0))
-    (shows t (c .before .before .before .before .before .before .before .before .put-answer .ensures))
-
-grant-on-requires : tie.Need-grant-on-requires
-grant-on-requires c κs = (c .before .before .before .before .before .before .before .before .before .before .before .before .before .before .before .before .before .pre .1 .0, rw (c .before .before .before .before .before .before .before .before .before .before .asked .ensures) (granted-takes (c .before .before .before .before .before .before .before .before)))
-
 same-length-4 : tie.Need-same-length-4
 same-length-4 c = search needs
 
+returns-2 : tie.Need-returns-2
+unfolding answerOf grantItem decode
+returns-2 c =
+    let t = c .before .before .before .before .before .before .before .before .before .before .before .before .before in
+    let s = c .before .before .before .before .before .before .before .before .before .before .before .before .before .before .before .before .before .before .before .before .before .before .before .before .before in
+    let p = s .args .part .now in
+    let x = claim-is (c .before .before .before .before .before .before .before .before .before .before .before .before .before .before .before) in
+    let n : c .before .before .before .word-at2 .result ≡ d t .actives = c .before .before .before .word-at2 .ensures in
+    let own = k t .judged .result .own in
+    let i = grantItem diskTable (at (diskOf (d t)) (q t .now)) (asked (diskOf (d t)) (q t)) in
+    step-accepted _ (grantedOf (diskOf (d t)) (q t .now) (asked (diskOf (d t)) (q t))) i [] (granted-outcome t) refl
+    (c .before .before .read-on .ensures
+    ∙ (λ j.
+    splice (splice p 0 (flat (q t .now ∷ (x j .ticket + 1) ∷ (n j + 1) ∷ []))) (64 + 44 * n j)
+    (flat (claimWords (putTold (x j) (own .told) (own .amount)))))
+    ∙ read-part (d t) (q t .now) (asked (diskOf (d t)) (q t)) (granted-takes t) (sym (c .before .before .before .before .before .before .before .is-reading .ensures) ∙ c .before .before .before .before .before .before .if3 .taken)
+    (ap (λ (j : Judgement). j .own .told) (k t .judged .ensures ∙ ap shownBy (granted-outcome t)))
+    (sym (encode-decode p (λ j. c .before .before .before .before .before .before .before .before .before .before .before .before .before .before .before .before .before .before .before .before .before .before .before .before .slice-known .given j .fits) (s .pre .0) (s .pre .1 .0))))
+    (shows t (c .before .before .before .before .before .before .before .before .before .before .put-answer .ensures))
+
+grant-on-requires : tie.Need-grant-on-requires
+grant-on-requires c κs = (c .before .before .before .before .before .before .before .before .before .before .before .before .before .before .before .before .before .before .before .before .pre .0, rw (claim-is (c .before .before .before .before .before .before .before .before .before .before)) (granted-takes (c .before .before .before .before .before .before .before .before)))
+
 same-length-5 : tie.Need-same-length-5
 same-length-5 c = search needs
+
+same-length-6 : tie.Need-same-length-6
+same-length-6 c = search needs
 
 returns-3 : tie.Need-returns-3
 unfolding answerOf grantItem
@@ -152,46 +188,48 @@ returns-3 c =
     let t = c .before .before .before .before .before .before .before .before .before .before .before in
     let i = grantItem diskTable (at (diskOf (d t)) (q t .now)) (asked (diskOf (d t)) (q t)) in
     step-accepted _ (grantedOf (diskOf (d t)) (q t .now) (asked (diskOf (d t)) (q t))) i [] (granted-outcome t) refl
-    (rw (t .before .before .asked .ensures) at (c .before .before .grant-on .ensures))
+    (c .before .before .grant-on .ensures ∙ ap (λ (x : Claim). partFor (grantedOf (diskOf (d t)) (q t .now) x)) (claim-is (c .before .before .before .before .before .before .before .before .before .before .before .before .before)))
     (shows t (c .before .before .before .before .before .before .before .before .put-answer .ensures))
 
 wait-on-requires : tie.Need-wait-on-requires
 wait-on-requires c κs =
     let u = taken (c .before .before) in
-    let s = u .before .before .before .before .before .before in
+    let s = c .before .before .before .before .before .before .before .before .before .before .before .before .before in
+    let l = diskOf (disk s) in
+    let q = askedOf (s .args .q) in
     let y : (shownBy (law (u .before .before .before)) .own .code ≡ 0 → ⊥) = λ e. c .before .if2 .left (code (c .before .before) ∙ e) in
-    rw (c .before .before .before .asked .ensures) (
-      search needs,
+    rw (claim-is (c .before .before .before)) (
+      s .pre .0,
       (
-        s .pre .1 .1 .1 .0,
+        good s,
         (
-          omega (arith, shown-place (diskOf (s .args .d)) (askedOf (s .args .q)) (accepts u) y, row-length (s .pre .1 .1 .1 .0 .waiting)),
-          ticket-fits (diskOf (s .args .d)) (askedOf (s .args .q)) (shown-passed (diskOf (s .args .d)) (askedOf (s .args .q)) (accepts u)),
+          omega (arith, shown-place l q (accepts u) y, row-length (good s .waiting)),
+          ticket-fits l q (shown-passed l q (accepts u)),
         ),
       ),
     )
 
 put-answer-requires-2 : tie.Need-put-answer-requires-2
-put-answer-requires-2 c κs = search needs
-
-same-length-6 : tie.Need-same-length-6
-same-length-6 c = search needs
+put-answer-requires-2 c κs = c .before .before .before .before .before .before .before .before .before .before .before .before .before .before .before .before .before .pre .1 .1 .1
 
 same-length-7 : tie.Need-same-length-7
 same-length-7 c = search needs
+
+same-length-8 : tie.Need-same-length-8
+same-length-8 c = search needs
 
 returns-4 : tie.Need-returns-4
 unfolding answerOf
 returns-4 c =
     let t = c .before .before .before .before .before .before .before .before in
     let u = taken (t .before) in
-    let s = u .before .before .before .before .before .before in
-    let l = diskOf (s .args .d) in
+    let s = c .before .before .before .before .before .before .before .before .before .before .before .before .before .before .before .before .before .before .before .before in
+    let l = diskOf (disk s) in
     let q = askedOf (s .args .q) in
     let y : (shownBy (law (u .before .before .before)) .own .code ≡ 0 → ⊥) = λ e. t .if2 .left (code (t .before) ∙ e) in
     let o = claim-waits l q (shown-passed l q (accepts u)) (shown-later l q (accepts u) y) (shown-place l q (accepts u) y) in
     step-accepted _ (waitingOf l (q .now) (asked l q)) (item 1 (l .next)) [] o refl
-    (rw (t .before .before .asked .ensures) at (c .before .before .before .before .before .before .wait-on .ensures))
+    (c .before .before .before .before .before .before .wait-on .ensures ∙ ap (λ (x : Claim). partFor (waitingOf l (q .now) x)) (claim-is (c .before .before .before .before .before .before .before .before .before .before)))
     (c .before .before .put-answer2 .ensures
     ∙ ap (λ (x : ℕ). answerBytes (A.Waits x) []) (ap (λ (j : Judgement). j .own .ticket) (u .before .before .before .judged .ensures ∙ ap shownBy o)))
 
@@ -203,20 +241,23 @@ serve-claim-spec =
     refusal-of-requires
     refuse-requires
     same-length
+    same-length-2
     returns
+    word-at-requires
     asked-requires
     put-answer-requires
     is-reading-requires
+    word-at-requires-2
     read-on-requires
-    same-length-2
     same-length-3
+    same-length-4
     returns-2
     grant-on-requires
-    same-length-4
     same-length-5
+    same-length-6
     returns-3
     wait-on-requires
     put-answer-requires-2
-    same-length-6
     same-length-7
+    same-length-8
     returns-4)
