@@ -2,6 +2,7 @@
 use Prim.Native.Nat.{ℕ, _+_, _*_, _-_}
 use mathlib.Core.Bool.{cond}
 use mathlib.Core.List.{List, [], _∷_, _++_}
+use mathlib.Core.Path.{_≡_}
 use lib.Dec.{eqb}
 use lib.IntN.{ℤ, pos}
 use lib.ListN.{length, replicate}
@@ -93,3 +94,7 @@ itemsBytes (a ∷ more) = itemBytes a ++ itemsBytes more
 -- First the call's own answer, then the pass's grants in order, unused items zero.
 unfoldable pub answerBytes : Answer → List Answer → List ℕ
 answerBytes own grants = itemBytes own ++ (itemsBytes grants ++ replicate (128 - 16 * length grants) 0)
+
+-- Where an answer stands alone in the buffer s, it stands with these grants behind it in t.
+abbrev pub Behind : List ℕ → List Answer → List ℕ → Type 0
+Behind s grants t = (own : Answer) → s ≡ answerBytes own [] → t ≡ answerBytes own grants

@@ -115,7 +115,7 @@ pub fn claims_at(s: &[u8], at: usize) -> [Claim; 8]
 }
 
 // The claim of the slot at an index.
-fn claim_at(s: &[u8], at: usize) -> Claim
+pub fn claim_at(s: &[u8], at: usize) -> Claim
     requires { ⌜ at + 44 ≤ length (now s) ⌝ }
     ensures { λ r. ⌜ r ≡ claimIn (take 44 (drop at (now (s .entry)))) ⌝ }
 {

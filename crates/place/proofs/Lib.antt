@@ -1,2 +1,3 @@
 -- Laws that the proofs of several functions use.
+pub mod GrantLaws
 pub mod MoveLaws

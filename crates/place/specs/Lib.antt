@@ -1,2 +1,3 @@
--- The disk that a change leaves.
-pub mod Moves
+-- The disk that a part holds while it is changed.
+pub mod Holding
+pub mod HoldingLaws

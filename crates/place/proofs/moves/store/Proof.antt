@@ -6,8 +6,8 @@ use borrow.Author.Needs.{needs}
 use mir.Facts.{toZ-ofZ}
 use Rattle.num.specs.Word.{putWord}
 use Rattle.num.specs.Signed.{putSigned}
-use Rattle.place.proofs.store.Statement.{statement}
-use Rattle.place.proofs.store.Tie as tie
+use Rattle.place.proofs.moves.store.Statement.{statement}
+use Rattle.place.proofs.moves.store.Tie as tie
 
 put-signed-requires : tie.Need-put-signed-requires
 put-signed-requires c κs = search needs

@@ -1,0 +1,2 @@
+-- A turn of the pass on a part, and what the pass leaves.
+pub mod Turns

@@ -1,0 +1,128 @@
+-- Laws of a grant on a part: the total noted in the head, the readings raised, and what is left of the law.
+use Prim.Native.Nat.{ℕ, zero, suc, _+_, _^_, _≤_, _<_}
+use mathlib.Core.Bool.{true, false}
+use mathlib.Core.List.{List}
+use mathlib.Core.Path.{_≡_, refl, sym, ap, _∙_, subst}
+use native.Mathlib.Omega.{arith}
+use lib.IntN.{ℤ, pos}
+use lib.ListN.{set}
+use Rattle.num.specs.Word.{putWord}
+use Rattle.num.specs.Runs.{splice}
+use Rattle.law.specs.declared.Attr.{Attr}
+use Rattle.law.specs.declared.Claim.{Claim}
+use Rattle.law.specs.Types.{Figures, sets, a2}
+use Rattle.law.specs.Entries.{kindAt, kindOf}
+use Rattle.law.specs.Granting.{limitBy, tellBy, noteBy, withAmount, putTold, gap, total}
+use Rattle.law.specs.GrantLaws.{MayGrant}
+use Rattle.law.specs.DiskType.{diskTable}
+use Rattle.lock.specs.Methods.{isReading}
+use Rattle.rules.specs.declared.disk.Disk.{Disk}
+use Rattle.rules.specs.Disks.{figuresIn, coreIn, diskOf, Good, DiskIs, withFigures, withActive, noteOf, raisedOf, grantOf}
+use Rattle.rules.proofs.ChangeLaws.{raise-lets, raised-all, grant-reading, grant-write}
+use Rattle.part.specs.Layout.{slots, headWords, decode, AttrFits}
+use Rattle.slots.specs.Slots.{Kept, Raisable, mapTo, raiseWith}
+use Rattle.place.specs.Holding.{Holds, NoteFits, numbered, withLast}
+use Rattle.place.specs.HoldingLaws.{holds-decode, holds-self, put-active-run, put-actives, put-figure}
+
+-- ---- the noted total
+
+abbrev pub noted : Disk → ℕ → ℕ → Disk
+noted d m total = withFigures d (noteBy (figuresIn d) (kindAt diskTable m) total)
+
+amount-fits : {a : Attr} {n : ℕ} → AttrFits a → n < 2 ^ 32 → AttrFits (withAmount a n)
+amount-fits f l = record { value = f .value; stamp = f .stamp; amount = l; limit = f .limit }
+
+module _ {s : List ℕ} {d : Disk} (h : Holds s d) (m total : ℕ) (l : total < 2 ^ 32) where
+  pub note-first : m ≡ 0 → Holds (putWord s 24 total) (noted d m total)
+  unfolding headWords diskTable
+  note-first e =
+      rw e
+      (put-figure h 6 total (omega arith) refl (amount-fits (h .fits .used) l) (h .fits .promised) (h .fits .state))
+
+  pub note-second : (m ≡ 0 → ⊥) → m < 3 → Holds (putWord s 40 total) (noted d m total)
+  unfolding headWords diskTable
+  note-second z k = go m z k
+    where
+      put : Holds (putWord s 40 total) (withFigures d (record { f0 = d .used; f1 = withAmount (d .promised) total; f2 = d .state }))
+      put = put-figure h 10 total (omega arith) refl (h .fits .used) (amount-fits (h .fits .promised) l) (h .fits .state)
+
+      go : (m : ℕ) → (m ≡ 0 → ⊥) → m < 3 → Holds (putWord s 40 total) (noted d m total)
+      go zero z k = absurd (z refl)
+      go (suc zero) z k = put
+      go (suc (suc zero)) z k = put
+      go (suc (suc (suc m))) z k = absurd (omega arith)
+
+  -- The state's amount is 0 and stays so; a reading notes nothing.
+  pub note-none : NoteFits m total → 3 ≤ m → Holds s (noted d m total)
+  unfolding diskTable
+  note-none f k = go m f k
+    where
+      same : total ≡ 0 → noteBy (figuresIn d) (sets a2) total ≡ figuresIn d
+      same e =
+          ap (λ (n : ℕ). noteBy (figuresIn d) (sets a2) n) (e ∙ sym (h .fits .state .amount))
+
+      go : (m : ℕ) → NoteFits m total → 3 ≤ m → Holds s (noted d m total)
+      go zero f k = absurd (omega arith)
+      go (suc zero) f k = absurd (omega arith)
+      go (suc (suc zero)) f k = absurd (omega arith)
+      go (suc (suc (suc zero))) f k = subst (λ (g : Figures). Holds s (withFigures d g)) (sym (same (f refl))) h
+      go (suc (suc (suc (suc zero)))) f k = h
+      go (suc (suc (suc (suc (suc zero))))) f k = h
+      go (suc (suc (suc (suc (suc (suc zero)))))) f k = h
+      go (suc (suc (suc (suc (suc (suc (suc m))))))) f k = h
+
+-- ---- the readings raised
+
+module _ (d : Disk) (c : Claim) (good : Good d) (may : MayGrant diskTable (coreIn d) c)
+    (writes : isReading (kindAt diskTable (c .method)) ≡ false) where
+  abbrev raise : ℕ
+  raise = c .error + gap diskTable (coreIn d) c
+
+  pub raisable : Raisable (d .active) (d .actives) (c .method) raise
+  raisable i l = raise-lets d c good may writes i l
+
+  pub raises : withActive d (mapTo (d .actives) (raiseWith (c .method) raise) (d .active)) ≡ raisedOf d c
+  raises = sym (raised-all d c writes)
+
+-- ---- the claim behind the active ones
+
+pub last-holds : {s : List ℕ} {d : Disk} → Holds s d → {n : ℕ} (c : Claim) → n < 8 → {row : List ℕ} → Kept row → slots 8 row ≡ set (d .active) n c →
+    Holds (putWord (splice s 64 row) 8 (n + 1)) (withLast d n c)
+last-holds {s} {d} h {n} c l {row} kept e =
+    subst (λ (cs : List Claim). Holds (putWord (splice s 64 row) 8 (n + 1)) (numbered (withActive d cs) (d .clock) (d .next) (n + 1) (d .waitings))) e
+    (put-actives (put-active-run h kept) (omega arith))
+
+-- ---- the grant
+
+-- What a grant leaves.
+abbrev Grants : List ℕ → Disk → Claim → Type 0
+Grants s d c = Holds s (decode s) × DiskIs (decode s) (grantOf (diskOf d) c)
+
+grants : {s : List ℕ} {e : Disk} (d : Disk) (c : Claim) → Holds s e → DiskIs e (grantOf (diskOf d) c) → Grants s d c
+grants d c h is = (holds-self h, rw (holds-decode h) is)
+
+module _ (d : Disk) (c : Claim) (good : Good d) (may : MayGrant diskTable (coreIn d) c) where
+  -- The state's total is 0.
+  pub note-fits : {s : List ℕ} → Holds s d → {sum : ℕ} → sum ≡ total diskTable (coreIn d) c → NoteFits (c .method) sum
+  unfolding diskTable
+  note-fits h {sum} e m =
+      let l : total diskTable (coreIn d) c ≤ d .state .limit =
+      subst (λ (k : ℕ). total diskTable (coreIn d) c ≤ limitBy (figuresIn d) (kindAt diskTable k) (c .error)) m (may .inLimit) in
+      omega (arith, e, l, h .fits .state .limit)
+
+  -- A reading is put behind the active claims, with what it is told and its total.
+  pub read-grants : isReading (kindAt diskTable (c .method)) ≡ true → {n sum : ℕ} {z : ℤ} → n ≡ d .actives →
+      z ≡ tellBy (figuresIn d) (kindOf diskTable c) → sum ≡ total diskTable (coreIn d) c → {s : List ℕ} →
+      Holds s (withLast d n (putTold c z sum)) → Grants s d c
+  read-grants r p q e h = grants d c h (rw (p, q, e) (grant-reading d c good may r))
+
+  -- A write raises, notes, and is put behind the active claims.
+  pub write-grants : isReading (kindAt diskTable (c .method)) ≡ false → {n sum : ℕ} → n ≡ d .actives → sum ≡ total diskTable (coreIn d) c →
+      {s t u : List ℕ} → Holds s (raisedOf d c) → Holds t (noted (decode s) (c .method) sum) → Holds u (withLast (decode t) n (putTold c (pos 0) 0)) →
+      Grants u d c
+  unfolding noteOf
+  write-grants r {n} {sum} p e {s} {t} {u} raises notes puts =
+      let second : Holds t (noteOf (raisedOf d c) c sum) = subst (λ (x : Disk). Holds t (noted x (c .method) sum)) (holds-decode raises) notes in
+      let third : Holds u (withLast (noteOf (raisedOf d c) c sum) n (putTold c (pos 0) 0)) =
+      subst (λ (x : Disk). Holds u (withLast x n (putTold c (pos 0) 0))) (holds-decode second) puts in
+      grants d c third (rw (p, e) (grant-write d c good may r))

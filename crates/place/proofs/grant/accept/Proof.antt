@@ -1,0 +1,59 @@
+-- The clock and the next ticket, and the grant: the part of the disk that the law leaves.
+use Prim.Native.Nat.{ℕ, _+_}
+use mathlib.Core.List.{List}
+use mathlib.Core.Path.{_≡_, sym, ap, _∙_, subst}
+use borrow.Author.Needs.{needs}
+use mir.Facts.{toZ-ofZ}
+use mir.Syntax.{w32}
+use mir.Val.{SFits}
+use Rattle.law.specs.Types.{Disk as LawDisk}
+use Rattle.rules.specs.declared.disk.Disk.{Disk}
+use Rattle.rules.specs.Answers.{grantedOf}
+use Rattle.rules.specs.Disks.{diskOf, DiskIs, grantOf}
+use Rattle.part.specs.Layout.{decode}
+use Rattle.place.specs.Holding.{Holds}
+use Rattle.place.specs.HoldingLaws.{holds-decode, holds-self, holds-part, decodes-holds}
+use Rattle.place.proofs.grant.accept.Statement.{statement}
+use Rattle.place.proofs.grant.accept.Tie as tie
+
+-- The disk of the part.
+abbrev disk : tie.Start → Disk
+disk k = decode (k .args .s .now)
+
+whole : (k : tie.After-slice-known) → Holds (k .before .args .s .now) (disk (k .before))
+whole k = decodes-holds (k .before .args .s .now) (λ i. k .slice-known .given i .fits) (k .before .pre .0) (k .before .pre .1 .0)
+
+add-stamp : tie.Need-add-stamp
+add-stamp c = search needs
+
+stamp-requires : tie.Need-stamp-requires
+stamp-requires c κs = (c .before .before .before .pre .0, whole (c .before .before))
+
+grant-requires : tie.Need-grant-requires
+grant-requires c κs =
+    let k = c .before .before .before .before .before .before .before in
+    let h = c .before .before .before .stamp .ensures in
+    let t = k .pre .1 .1 .0 in
+    let f : SFits w32 (k .args .told) = search needs in (
+      search needs,
+      (
+        holds-self h,
+        rw (holds-decode h) (
+          record { active = t .good .active; waiting = t .good .waiting },
+          (t .may, (toZ-ofZ f ∙ k .pre .1 .1 .1, t .counts)),
+        ),
+      ),
+    )
+
+same-length : tie.Need-same-length
+same-length c = search needs
+
+returns : tie.Need-returns
+unfolding grantedOf
+returns c =
+    let h = c .before .before .before .before .before .before .stamp .ensures in
+    let g = c .before .before .grant .ensures in
+    holds-part (g .0) (rw (holds-decode h) at (g .1))
+
+pub accept-spec : {M : Type 1} → statement M
+accept-spec = tie.close (tie.spec add-stamp stamp-requires grant-requires same-length returns)

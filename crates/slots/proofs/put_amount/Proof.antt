@@ -1,0 +1,42 @@
+-- The word put is the claim's ninth.
+use Prim.Native.Nat.{_^_, _<_}
+use mathlib.Core.Path.{_∙_}
+use lib.ListN.{getD}
+use borrow.Author.Needs.{needs}
+use Rattle.num.specs.Word.{Bytes}
+use Rattle.claims.specs.Rows.{noClaim}
+use Rattle.part.specs.Layout.{slots}
+use Rattle.part.specs.SlotLaws.{slots-fit}
+use Rattle.slots.specs.SlotsLaws.{set-fits, amount-fits, put-amount-in, put-kept, put-slots}
+use Rattle.slots.proofs.put_amount.Statement.{statement}
+use Rattle.slots.proofs.put_amount.Tie as tie
+
+mul-put-word : tie.Need-mul-put-word
+mul-put-word c = search needs
+
+add-put-word : tie.Need-add-put-word
+add-put-word c = search needs
+
+put-word-requires : tie.Need-put-word-requires
+put-word-requires c κs = search needs
+
+same-length : tie.Need-same-length
+same-length c = search needs
+
+fits : (c : tie.Start) → c .args .amount < 2 ^ 32
+fits c = search needs
+
+returns : tie.Need-returns
+returns c =
+    let k = c .before .before .before .before in
+    let s = k .before in
+    let a = s .args in
+    let row = a .row .now in
+    let bytes : Bytes row = λ i. k .slice-known .given i .fits in
+    let f = set-fits row bytes (a .i) _ (amount-fits (getD (slots 8 row) (a .i) noClaim) (a .amount) (slots-fit 8 row bytes (a .i)) (fits s)) in
+    let e = c .before .before .put-word .ensures ∙ put-amount-in row (s .pre .1 .0) (a .i) (a .amount) (s .pre .1 .1) in
+    (put-kept _ _ f e, put-slots _ _ f e)
+
+pub put-amount-spec : {M : Type 1} → statement M
+put-amount-spec =
+    tie.close (tie.spec mul-put-word add-put-word put-word-requires same-length returns)

@@ -1,0 +1,42 @@
+-- The bytes put are those of the claims with this one stored.
+use mathlib.Core.Path.{_∙_}
+use borrow.Author.Needs.{needs}
+use Rattle.part.specs.Layout.{ClaimFits}
+use Rattle.slots.specs.SlotsLaws.{set-fits, put-claim-in, put-kept, put-slots}
+use Rattle.slots.proofs.put_slot.Statement.{statement}
+use Rattle.slots.proofs.put_slot.Tie as tie
+
+mul-put-claim : tie.Need-mul-put-claim
+mul-put-claim c = search needs
+
+put-claim-requires : tie.Need-put-claim-requires
+put-claim-requires c κs = search needs
+
+same-length : tie.Need-same-length
+same-length c = search needs
+
+fits : (c : tie.Start) → ClaimFits (c .args .c)
+fits c =
+    record {
+      ticket = search needs;
+      method = search needs;
+      priority = search needs;
+      flag = search needs;
+      measured = search needs;
+      value = search needs;
+      error = search needs;
+      told = search needs;
+      amount = search needs;
+    }
+
+returns : tie.Need-returns
+returns c =
+    let s = c .before .before .before .before .before in
+    let a = s .args in
+    let row = a .row .now in
+    let f = set-fits row (λ i. c .before .before .before .before .slice-known .given i .fits) (a .i) (a .c) (fits s) in
+    let e = c .before .before .put-claim .ensures ∙ put-claim-in row (s .pre .1 .0) (a .i) (a .c) (s .pre .1 .1) in
+    (put-kept _ _ f e, put-slots _ _ f e)
+
+pub put-slot-spec : {M : Type 1} → statement M
+put-slot-spec = tie.close (tie.spec mul-put-claim put-claim-requires same-length returns)

@@ -1,0 +1,3 @@
+-- Eight slots, and the claims in them.
+pub mod Slots
+pub mod SlotsLaws

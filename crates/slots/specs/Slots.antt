@@ -1,0 +1,32 @@
+-- Eight slots in bytes, and the readings among their claims raised by the grant of a write.
+use Prim.Native.Nat.{ℕ, _<_}
+use mathlib.Core.Bool.{false, true}
+use mathlib.Core.List.{List, _++_, map}
+use mathlib.Core.Path.{_≡_}
+use lib.ListN.{take, drop, getD}
+use Rattle.law.specs.declared.Claim.{Claim}
+use Rattle.law.specs.Entries.{entryBy, kindAt, kindOf}
+use Rattle.law.specs.DiskType.{diskTable}
+use Rattle.claims.specs.Rows.{noClaim}
+use Rattle.lock.specs.Loops.{letsBy}
+use Rattle.rules.specs.Disks.{raiseBy}
+use Rattle.part.specs.Layout.{slots, inSlots}
+
+-- The bytes are those of their claims: what carries no figure is zero.
+abbrev pub Kept : List ℕ → Type 0
+Kept row = inSlots (slots 8 row) ≡ row
+
+-- The list with f done to each before a place.
+abbrev pub mapTo : {X : Type 0} → ℕ → (X → X) → List X → List X
+mapTo i f l = map f (take i l) ++ drop i l
+
+-- The active claim x raised by so much by the grant of a write of method m.
+abbrev pub raiseWith : ℕ → ℕ → Claim → Claim
+raiseWith m raise x = raiseBy x (entryBy (kindOf diskTable x) (kindAt diskTable m)) raise
+
+-- None of the first n would be raised past its limit.
+abbrev pub Raisable : List Claim → ℕ → ℕ → ℕ → Type 0
+Raisable cs n m raise =
+    (i : ℕ) → i < n →
+    letsBy (entryBy (kindOf diskTable (getD cs i noClaim)) (kindAt diskTable m)) false (getD cs i noClaim .amount) (getD cs i noClaim .error) raise
+    ≡ true

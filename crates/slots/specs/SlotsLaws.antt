@@ -1,0 +1,131 @@
+-- Laws of eight slots: a claim or an amount put into one of them, what is read from it, and what is raised.
+use Prim.Native.Nat.{ℕ, zero, suc, _+_, _*_, _^_, _<_}
+use mathlib.Core.List.{List, [], _∷_, _++_, append-nil}
+use mathlib.Core.Path.{_≡_, refl, sym, ap, _∙_}
+use native.Mathlib.Omega.{arith}
+use lib.ListN.{length, drop, getD, set, length-set}
+use lib.Seq.{getD-take, getD-drop}
+use Rattle.num.specs.Word.{wordAt, putWord, Bytes}
+use Rattle.num.specs.Runs.{le4, flat, splice}
+use Rattle.num.specs.RunLaws.{length-le4, put-splice, splice-first, splice-second}
+use Rattle.law.specs.declared.Claim.{Claim}
+use Rattle.law.specs.declared.Entry.{Entry}
+use Rattle.law.specs.declared.Entry.the-variants.{A, N, D, G}
+use Rattle.law.specs.Granting.{putTold}
+use Rattle.claims.specs.Rows.{noClaim}
+use Rattle.rules.specs.Disks.{raiseBy}
+use Rattle.part.specs.Layout.{claimIn, claimWords, slots, inSlots, ClaimFits, ClaimsFit}
+use Rattle.part.specs.SlotLaws.{length-slots, length-slot, slots-back, slots-fit, slot-at, put-in-slot}
+use Rattle.slots.specs.Slots.{Kept}
+
+-- The bytes of eight claims that have a place hold them.
+pub slots-in : (cs : List Claim) → ClaimsFit cs → slots 8 (inSlots cs) ≡ cs
+slots-in cs f =
+    ap (slots 8) (sym (append-nil (inSlots cs)))
+    ∙ ap (λ (k : ℕ). slots k (inSlots cs ++ [])) (sym (f .room))
+    ∙ slots-back cs [] (f .each)
+
+pub kept-in : (cs : List Claim) → ClaimsFit cs → Kept (inSlots cs)
+kept-in cs f = ap inSlots (slots-in cs f)
+
+-- So do bytes that are theirs.
+pub put-slots : (r : List ℕ) (cs : List Claim) → ClaimsFit cs → r ≡ inSlots cs → slots 8 r ≡ cs
+put-slots r cs f e = ap (slots 8) e ∙ slots-in cs f
+
+pub put-kept : (r : List ℕ) (cs : List Claim) → ClaimsFit cs → r ≡ inSlots cs → Kept r
+put-kept r cs f e = ap (λ (s : List ℕ). inSlots (slots 8 s)) e ∙ kept-in cs f ∙ sym e
+
+-- ---- what has a place
+
+set-each : (cs : List Claim) (i : ℕ) (c : Claim) → ((k : ℕ) → ClaimFits (getD cs k noClaim)) → ClaimFits c →
+    (k : ℕ) → ClaimFits (getD (set cs i c) k noClaim)
+set-each [] i c f g k = f k
+set-each (x ∷ cs) zero c f g zero = g
+set-each (x ∷ cs) zero c f g (suc k) = f (suc k)
+set-each (x ∷ cs) (suc i) c f g zero = f zero
+set-each (x ∷ cs) (suc i) c f g (suc k) = set-each cs i c (λ j. f (suc j)) g k
+
+-- The claims of bytes have one, with a claim that has one stored among them.
+pub set-fits : (row : List ℕ) → Bytes row → (i : ℕ) (c : Claim) → ClaimFits c → ClaimsFit (set (slots 8 row) i c)
+set-fits row b i c g =
+    record { room = length-set (slots 8 row) i c ∙ length-slots 8 row; each = set-each (slots 8 row) i c (slots-fit 8 row b) g }
+
+-- So has one with another amount.
+pub amount-fits : (c : Claim) (x : ℕ) → ClaimFits c → x < 2 ^ 32 → ClaimFits (putTold c (c .told) x)
+amount-fits c x f h =
+    record {
+      ticket = f .ticket;
+      method = f .method;
+      priority = f .priority;
+      flag = f .flag;
+      measured = f .measured;
+      value = f .value;
+      error = f .error;
+      told = f .told;
+      amount = h;
+    }
+
+-- ---- what is put
+
+pub put-claim-in : (row : List ℕ) → Kept row → (i : ℕ) (c : Claim) → i < 8 →
+    splice row (44 * i) (flat (claimWords c)) ≡ inSlots (set (slots 8 row) i c)
+put-claim-in row kept i c h =
+    ap (λ (r : List ℕ). splice r (44 * i) (flat (claimWords c))) (sym kept)
+    ∙ put-in-slot (slots 8 row) i c (omega (arith, length-slots 8 row))
+
+-- The ninth word of a slot is the amount.
+amount-word : (c : Claim) (x : ℕ) → splice (flat (claimWords c)) 32 (le4 x) ≡ flat (claimWords (putTold c (c .told) x))
+unfolding splice flat claimWords le4
+amount-word c x = refl
+
+amount-slot : (cs : List Claim) (i x : ℕ) → i < length cs →
+    splice (inSlots cs) (44 * i + 32) (le4 x) ≡ inSlots (set cs i (putTold (getD cs i noClaim) (getD cs i noClaim .told) x))
+unfolding inSlots
+amount-slot [] i x h = absurd (omega arith)
+amount-slot (c ∷ cs) zero x h =
+    splice-first (flat (claimWords c)) (inSlots cs) 32 (le4 x) (omega (arith, length-slot c, length-le4 x))
+    ∙ ap (λ (r : List ℕ). r ++ inSlots cs) (amount-word c x)
+amount-slot (c ∷ cs) (suc i) x h =
+    let e : 44 * suc i + 32 ≡ length (flat (claimWords c)) + (44 * i + 32) = omega (arith, length-slot c) in
+    ap (λ (k : ℕ). splice (flat (claimWords c) ++ inSlots cs) k (le4 x)) e
+    ∙ splice-second (flat (claimWords c)) (inSlots cs) (44 * i + 32) (le4 x)
+    ∙ ap (λ (r : List ℕ). flat (claimWords c) ++ r) (amount-slot cs i x (omega arith))
+
+pub put-amount-in : (row : List ℕ) → Kept row → (i x : ℕ) → i < 8 →
+    putWord row (44 * i + 32) x
+    ≡ inSlots (set (slots 8 row) i (putTold (getD (slots 8 row) i noClaim) (getD (slots 8 row) i noClaim .told) x))
+put-amount-in row kept i x h =
+    put-splice row (44 * i + 32) x
+    ∙ ap (λ (r : List ℕ). splice r (44 * i + 32) (le4 x)) (sym kept)
+    ∙ amount-slot (slots 8 row) i x (omega (arith, length-slots 8 row))
+
+-- ---- what is read
+
+-- The first word of a slot is the ticket.
+pub ticket-at : (row : List ℕ) (i : ℕ) → i < 8 → wordAt row (44 * i) ≡ getD (slots 8 row) i noClaim .ticket
+unfolding claimIn wordAt
+ticket-at row i h =
+    let s = drop (44 * i) row in
+    let e : 44 * i + 0 ≡ 44 * i = omega arith in
+    sym
+    (ap (λ (c : Claim). c .ticket) (slot-at 8 row i h)
+    ∙ rw (
+      getD-take 44 s 0 0 (omega arith),
+      getD-take 44 s 1 0 (omega arith),
+      getD-take 44 s 2 0 (omega arith),
+      getD-take 44 s 3 0 (omega arith),
+      getD-drop (44 * i) row 0 0,
+      getD-drop (44 * i) row 1 0,
+      getD-drop (44 * i) row 2 0,
+      getD-drop (44 * i) row 3 0,
+      e,
+    ))
+
+-- ---- what is raised
+
+-- A claim with the amount of the raised one is the raised one.
+pub raise-amount : (x : Claim) (e : Entry) (raise : ℕ) → putTold x (x .told) (raiseBy x e raise .amount) ≡ raiseBy x e raise
+raise-amount x A raise = refl
+raise-amount x N raise = refl
+raise-amount x D raise = refl
+raise-amount x G raise = refl
