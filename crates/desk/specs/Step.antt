@@ -3,7 +3,6 @@
 use Prim.Native.Nat.{ℕ}
 use mathlib.Core.Bool.{cond, _&&_}
 use mathlib.Core.List.{List, [], _∷_, map}
-use mathlib.Core.Path.{_≡_}
 use lib.Dec.{leb, eqb}
 use lib.ListN.{length}
 use Rattle.num.specs.Opened.{openAt, setOpen}
@@ -11,7 +10,6 @@ use Rattle.law.specs.Types.{Item, Outcome, refused, accepted}
 use Rattle.law.specs.Calls.{openDisk}
 use Rattle.law.specs.History.{Call, answered}
 use Rattle.law.specs.DiskType.{diskTable}
-use Rattle.rules.specs.declared.disk.Item.{Item as CodeItem}
 use Rattle.part.specs.Held.{held, partFor, soundPart}
 use Rattle.answer.specs.declared.Answer.{Answer}
 use Rattle.answer.specs.declared.Answer.the-variants as A
@@ -28,14 +26,6 @@ unfoldable pub answerOf : Item → Answer
 answerOf i =
     cond (eqb (i .code) 0) (A.Granted (i .ticket) (i .told) (i .amount))
     (cond (eqb (i .code) 1) (A.Waits (i .ticket)) (cond (eqb (i .code) 2) (A.Released (i .ticket)) A.Opened))
-
--- The answer of a grant, by its item in code.
-abbrev pub grantOf : CodeItem → Answer
-grantOf i = A.Granted (i .ticket) (i .told) (i .amount)
-
--- Where an answer stands alone in the buffer s, it stands with these grants behind it in t.
-abbrev pub Behind : List ℕ → List Answer → List ℕ → Type 0
-Behind s grants t = (own : Answer) → s ≡ answerBytes own [] → t ≡ answerBytes own grants
 
 -- What a call says: a refusal, or the items of the law, the call's own first, then the grants of its pass in order.
 pub data Said : Type 0 where

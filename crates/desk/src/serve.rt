@@ -3,45 +3,35 @@
 
 ghost use mathlib.Core.Path.{_≡_};
 ghost use mathlib.Core.Bool.{true};
-ghost use mathlib.Core.List.{[], _∷_, map};
-ghost use Prim.Native.Nat.{_+_, _*_, _≤_, _<_};
-ghost use lib.ListN.{length, take};
+ghost use mathlib.Core.List.{[]};
+ghost use lib.ListN.{length};
 ghost use Rattle.law.specs.Calls.{claim as lawClaim, release as lawRelease};
-ghost use Rattle.law.specs.Granting.{putTold};
 ghost use Rattle.law.specs.Sound.{Sound};
-ghost use Rattle.law.specs.Types.{Item as LawItem};
 ghost use Rattle.law.specs.DiskType.{diskTable};
-ghost use Rattle.rules.specs.Disks.{diskOf, Good};
-ghost use Rattle.rules.specs.Answers.{askedOf, TakesGrant, ItemsAre, grantedOf, waitingOf};
-ghost use Rattle.num.specs.Runs.{flat, splice};
-ghost use Rattle.part.specs.Layout.{claimWords, decode, encode, decodes};
+ghost use Rattle.rules.specs.Answers.{askedOf, released};
+ghost use Rattle.part.specs.Layout.{decodes};
+ghost use Rattle.part.specs.Held.{held};
 ghost use Rattle.answer.specs.declared.Answer.the-variants.{Refused};
 ghost use Rattle.answer.specs.Answers.{numberOf, answerBytes};
 ghost use Rattle.desk.specs.Record.{callOf};
-ghost use Rattle.part.specs.Held.{held, partFor};
-ghost use Rattle.desk.specs.Step.{grantOf, Behind, settled, serveOf, stepped, written};
+ghost use Rattle.desk.specs.Step.{settled, serveOf, stepped, written};
 use crate::record::asked_in;
 use answer::Answer;
 use answer::Refusal;
 use answer::number;
 use answer::put_answer;
-use answer::put_grant;
 use answer::refusal_of;
 use judge::judged;
-use law::Claim;
-use lock::method::is_reading;
 use num::word::word_at;
-use part::read::disk_of;
 use part::whole::decodes;
-use part::write::put_disk;
-use part::write::put_granted;
+use pass::pass;
+use place::grant::accept;
+use place::moves::end;
+use place::moves::leave;
+use place::moves::wait;
 use rules::calls::asked;
-use rules::calls::granting;
-use rules::calls::release;
-use rules::calls::waits;
 use rules::disk::Asked;
-use rules::disk::Disk;
-use rules::disk::Item;
+use slots::find_in;
 use sound::is_sound;
 
 // Refuses: the number in the first item, all else zero.
@@ -52,41 +42,6 @@ pub fn refuse(answer: &mut [u8], r: Refusal) -> u32
 {
     put_answer(answer, Answer::Refused(r));
     number(r)
-}
-
-// The reading c granted behind n active claims: it is put in its place, and nothing else changes but clock and next ticket.
-fn read_on(part: &mut [u8], second: u32, n: u32, c: Claim, own: Item)
-    requires { ⌜ length (now part) ≡ 768 ⌝ }
-    requires { ⌜ n < 8 ⌝ }
-    requires { ⌜ c .ticket ≤ 999_999 ⌝ }
-    ensures { λ _. ⌜ now (part .exit) ≡ splice (splice (now (part .entry)) 0 (flat (second ∷ (c .ticket + 1) ∷ (n + 1) ∷ []))) (64 + 44 * n) (flat (claimWords (putTold c (own .told) (own .amount)))) ⌝ }
-{
-    let mut g = c;
-    g.told = own.told;
-    g.amount = own.amount;
-    put_granted(part, second, c.ticket + 1, n, g);
-}
-
-// The claim c granted, on a part.
-fn grant_on(part: &mut [u8], second: u32, c: Claim, total: u32)
-    requires { ⌜ length (now part) ≡ 768 ⌝ }
-    requires { ⌜ TakesGrant (decode (now part)) second c total ⌝ }
-    ensures { λ _. ⌜ now (part .exit) ≡ partFor (grantedOf (held (now (part .entry))) second c) ⌝ }
-{
-    let d = disk_of(part);
-    put_disk(part, granting(d, second, c, total));
-}
-
-// The claim c waiting, on a part.
-fn wait_on(part: &mut [u8], second: u32, c: Claim)
-    requires { ⌜ length (now part) ≡ 768 ⌝ }
-    requires { ⌜ Good (decode (now part)) ⌝ }
-    requires { ⌜ decode (now part) .waitings < 8 ⌝ }
-    requires { ⌜ c .ticket ≤ 999_999 ⌝ }
-    ensures { λ _. ⌜ now (part .exit) ≡ partFor (waitingOf (held (now (part .entry))) second c) ⌝ }
-{
-    let d = disk_of(part);
-    put_disk(part, waits(d, second, c));
 }
 
 // A claim on a sound part.
@@ -105,52 +60,51 @@ fn serve_claim(part: &mut [u8], q: Asked, answer: &mut [u8]) -> u32
     let c = asked(q, word_at(part, 4));
     if own.code == 0 {
         put_answer(answer, Answer::Granted(own.ticket, own.told, own.amount));
-        if is_reading(q.method) {
-            read_on(part, q.now, word_at(part, 8), c, own);
-            return 0;
-        }
-        grant_on(part, q.now, c, own.amount);
+        accept(part, q.now, c, own.told, own.amount);
         return 0;
     }
-    wait_on(part, q.now, c);
     put_answer(answer, Answer::Waits(own.ticket));
+    wait(part, q.now, c);
     1
 }
 
-// The grants of a pass behind the call's own answer.
-fn put_grants(answer: &mut [u8], items: [Item; 8], count: u32)
+// The claim of that ticket has ended: the release is answered, and the pass runs.
+fn settle(part: &mut [u8], ticket: u32, answer: &mut [u8]) -> u32
+    requires { ⌜ length (now part) ≡ 768 ⌝ }
+    requires { ⌜ decodes (now part) ≡ true ⌝ }
+    requires { ⌜ Sound diskTable (held (now part)) ⌝ }
     requires { ⌜ length (now answer) ≡ 144 ⌝ }
-    requires { ⌜ count ≤ 8 ⌝ }
-    ensures { λ _. ⌜ Behind (now (answer .entry)) (map grantOf (take count items)) (now (answer .exit)) ⌝ }
+    ensures { λ n. ⌜ stepped n (now (part .exit)) (now (answer .exit)) ≡ written (settled (now (part .entry)) (released (held (now (part .entry))) ticket)) ⌝ }
 {
-    let n = count as usize;
-    let mut k: usize = 0;
-    while k < n {
-        let i = items[k];
-        put_grant(answer, k, i.ticket, i.told, i.amount);
-        k += 1;
-    }
+    put_answer(answer, Answer::Released(ticket));
+    pass(part, answer);
+    2
 }
 
-// A release on the part that holds the sound disk d.
-fn serve_release(part: &mut [u8], d: Disk, second: u32, ticket: u32, answer: &mut [u8]) -> u32
-    requires { ⌜ now part ≡ encode d ⌝ }
+// A release on a sound part.
+fn serve_release(part: &mut [u8], second: u32, ticket: u32, answer: &mut [u8]) -> u32
     requires { ⌜ length (now part) ≡ 768 ⌝ }
+    requires { ⌜ decodes (now part) ≡ true ⌝ }
+    requires { ⌜ Sound diskTable (held (now part)) ⌝ }
     requires { ⌜ length (now answer) ≡ 144 ⌝ }
-    requires { ⌜ Good d ⌝ }
-    requires { ⌜ Sound diskTable (diskOf d) ⌝ }
-    ensures { λ n. ⌜ stepped n (now (part .exit)) (now (answer .exit)) ≡ written (settled (now (part .entry)) (lawRelease diskTable (diskOf d) second ticket)) ⌝ }
+    ensures { λ n. ⌜ stepped n (now (part .exit)) (now (answer .exit)) ≡ written (settled (now (part .entry)) (lawRelease diskTable (held (now (part .entry))) second ticket)) ⌝ }
 {
-    let a = release(d, second, ticket);
-    if a.refusal != 0 {
-        return refuse(answer, refusal_of(a.refusal));
+    if second < word_at(part, 0) {
+        return refuse(answer, Refusal::Clock);
     }
-    let disk = a.disk;
-    let items = a.items;
-    put_disk(part, disk);
-    put_answer(answer, Answer::Released(ticket));
-    put_grants(answer, items, a.count);
-    2
+    let actives = word_at(part, 8) as usize;
+    let at = find_in(&part[64..416], actives, ticket);
+    if at < actives {
+        end(part, second, at);
+        return settle(part, ticket, answer);
+    }
+    let waitings = word_at(part, 12) as usize;
+    let place = find_in(&part[416..768], waitings, ticket);
+    if place < waitings {
+        leave(part, second, place);
+        return settle(part, ticket, answer);
+    }
+    refuse(answer, Refusal::Ticket)
 }
 
 // A claim or a release on the lent part of an open disk.
@@ -169,6 +123,5 @@ pub fn serve(part: &mut [u8], r: &[u8], answer: &mut [u8]) -> u32
     if r[2] == 2 {
         return serve_claim(part, asked_in(r), answer);
     }
-    let d = disk_of(part);
-    serve_release(part, d, word_at(r, 8), word_at(r, 12), answer)
+    serve_release(part, word_at(r, 8), word_at(r, 12), answer)
 }

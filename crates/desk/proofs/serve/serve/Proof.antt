@@ -1,15 +1,13 @@
 -- A part that does not decode, or whose disk is not sound, is refused; else it is that disk, and the rules decide.
 use mathlib.Core.Bool.{true}
-use mathlib.Core.Path.{_≡_, refl, sym, ap, _∙_}
+use mathlib.Core.Path.{_≡_, refl, sym, _∙_}
 use borrow.Author.Needs.{needs}
 use borrow.Author.Tests.{not-true, not-false}
 use Rattle.law.specs.SoundTest.{says-sound}
 use Rattle.law.specs.DiskType.{diskTable}
 use Rattle.law.specs.Sound.{sound}
-use Rattle.rules.specs.declared.disk.Disk.{Disk}
 use Rattle.rules.specs.Disks.{diskOf}
-use Rattle.part.specs.Layout.{decode, decodes, encode}
-use Rattle.part.specs.LayoutLaws.{encode-decode, decode-good}
+use Rattle.part.specs.Layout.{decode, decodes}
 use Rattle.desk.specs.Record.{callOf}
 use Rattle.desk.proofs.ServeLaws.{serve-undecoded, serve-unsound, serve-claims, serve-releases}
 use Rattle.desk.proofs.serve.serve.Statement.{statement}
@@ -83,9 +81,6 @@ returns-3 c =
     serve-claims (s .part .now) (whole (c .before .before .before .before .before .before .before .before .before .before .before .before .before)) {d = decode (s .part .now)} refl (holds (c .before .before .before .before .before .before .before .before .before .before)) (s .r .now)
     (c .before .before .before .before .before .before .asked-in .ensures) (c .before .before .before .before .before .before .before .before .if3 .taken) (c .before .before .before .before .serve-claim .ensures)
 
-disk-of-requires : tie.Need-disk-of-requires
-disk-of-requires c κs = search needs
-
 word-at-requires : tie.Need-word-at-requires
 word-at-requires c κs = search needs
 
@@ -94,16 +89,8 @@ word-at-requires-2 c κs = search needs
 
 serve-release-requires : tie.Need-serve-release-requires
 serve-release-requires c κs =
-    let s = c .before .before .before .before .before .before .before .before .before .before .before .before .before .before .before .before .before in
-    let p = s .args .part .now in
-    let e = c .before .before .before .before .disk-of .ensures in
-    let w = whole (c .before .before .before .before .before .before .before .before .before .before .before) in (
-      sym (encode-decode p (λ i. c .before .before .before .before .before .before .before .before .before .before .before .before .before .before .before .before .slice-known .given i .fits) (s .pre .0) w) ∙ ap encode (sym e),
-      (
-        s .pre .0,
-        (s .pre .1 .1, (rw e (decode-good p (s .pre .0) w), rw e (says-sound diskTable (diskOf (decode p)) .0 (holds (c .before .before .before .before .before .before .before .before))))),
-      ),
-    )
+    let s = c .before .before .before .before .before .before .before .before .before .before .before .before .before .before .before in
+    (s .pre .0, (whole (c .before .before .before .before .before .before .before .before .before), (says-sound diskTable (diskOf (decode (s .args .part .now))) .0 (holds (c .before .before .before .before .before .before)), s .pre .1 .1)))
 
 same-length-7 : tie.Need-same-length-7
 same-length-7 c = search needs
@@ -113,10 +100,9 @@ same-length-8 c = search needs
 
 returns-4 : tie.Need-returns-4
 returns-4 c =
-    let s = c .before .before .before .before .before .before .before .before .before .before .before .before .before .before .before .before .before .before .before .before .before .before .args in
-    let e = c .before .before .before .before .before .before .before .before .before .disk-of .ensures in
-    serve-releases (s .part .now) (whole (c .before .before .before .before .before .before .before .before .before .before .before .before .before .before .before .before)) e (ap (λ (x : Disk). sound diskTable (diskOf x)) e ∙ holds (c .before .before .before .before .before .before .before .before .before .before .before .before .before)) (s .r .now)
-    (c .before .before .before .before .before .before .before .word-at .ensures) (c .before .before .before .before .before .before .word-at2 .ensures) (c .before .before .before .before .before .before .before .before .before .before .before .if3 .left) (c .before .before .before .before .serve-release .ensures)
+    let s = c .before .before .before .before .before .before .before .before .before .before .before .before .before .before .before .before .before .before .before .before .args in
+    serve-releases (s .part .now) (whole (c .before .before .before .before .before .before .before .before .before .before .before .before .before .before)) {d = decode (s .part .now)} refl (holds (c .before .before .before .before .before .before .before .before .before .before .before)) (s .r .now)
+    (c .before .before .before .before .before .before .before .word-at .ensures) (c .before .before .before .before .before .before .word-at2 .ensures) (c .before .before .before .before .before .before .before .before .before .if3 .left) (c .before .before .before .before .serve-release .ensures)
 
 pub serve-spec : {M : Type 1} → statement M
 serve-spec =
@@ -138,7 +124,6 @@ serve-spec =
     same-length-5
     same-length-6
     returns-3
-    disk-of-requires
     word-at-requires
     word-at-requires-2
     serve-release-requires

@@ -1,5 +1,5 @@
 -- What is judged says which of the law's outcomes it is; part and answer are that outcome's.
-use Prim.Native.Nat.{ℕ, _+_, _*_}
+use Prim.Native.Nat.{ℕ}
 use mathlib.Core.List.{List, [], _∷_}
 use mathlib.Core.Path.{_≡_, refl, sym, ap, _∙_}
 use native.Mathlib.Omega.{arith}
@@ -13,24 +13,24 @@ use Rattle.num.specs.Metric.{size}
 use Rattle.claims.specs.RowLaws.{row-length}
 use Rattle.law.specs.declared.Claim.{Claim}
 use Rattle.law.specs.Types.{claimOf, Asked as LawAsked, Outcome, refused, accepted}
-use Rattle.law.specs.Granting.{putTold, grantItem}
+use Rattle.law.specs.Entries.{kindOf}
+use Rattle.law.specs.Granting.{tellBy, grantItem}
 use Rattle.law.specs.Calls.{asked, at, item, claim}
 use Rattle.law.specs.DiskType.{diskTable}
 use Rattle.rules.specs.declared.disk.Disk.{Disk}
 use Rattle.rules.specs.declared.disk.Item.{Item}
 use Rattle.rules.specs.declared.calls.Judgement.{Judgement}
 use Rattle.rules.specs.Answers.{askedOf, shownBy, TakesGrant, grantedOf, waitingOf}
-use Rattle.rules.specs.Disks.{diskOf, Good}
-use Rattle.num.specs.Runs.{flat, splice}
+use Rattle.rules.specs.Disks.{figuresIn, diskOf, Good}
 use Rattle.part.specs.Held.{partFor}
-use Rattle.part.specs.Layout.{claimWords, decode}
-use Rattle.part.specs.LayoutLaws.{encode-decode, decode-good}
+use Rattle.part.specs.Layout.{decode}
+use Rattle.part.specs.LayoutLaws.{decode-good}
 use Rattle.rules.proofs.CallLaws.{claim-granted, claim-waits, shown-refused, shown-passed, shown-granted, shown-later, shown-place, ticket-fits, takes-grant}
 use Rattle.answer.specs.declared.Refusal.{Refusal}
 use Rattle.answer.specs.declared.Answer.the-variants as A
 use Rattle.answer.specs.Answers.{numberOf, answerBytes}
-use Rattle.desk.specs.Step.{answerOf, grantOf}
-use Rattle.desk.proofs.ServeLaws.{step-refused, step-accepted, read-part}
+use Rattle.desk.specs.Step.{answerOf}
+use Rattle.desk.proofs.ServeLaws.{step-refused, step-accepted}
 use Rattle.desk.proofs.serve.serve_claim.Statement.{statement}
 use Rattle.desk.proofs.serve.serve_claim.Tie as tie
 
@@ -84,21 +84,25 @@ module _ (c : tie.Then2) where
       (shown-granted (diskOf d) q (accepts (taken (c .before))) (sym (code (c .before)) ∙ c .if2 .taken))
       (ap (λ (j : Judgement). j .own .amount) (k .judged .ensures ∙ ap shownBy granted-outcome))
 
+  -- It is told the law's sum.
+  abbrev own : Item
+  own = k .judged .result .own
+
+  pub told-law : own .told ≡ tellBy (figuresIn d) (kindOf diskTable (asked (diskOf d) q))
+  unfolding grantItem
+  told-law = ap (λ (j : Judgement). j .own .told) (k .judged .ensures ∙ ap shownBy granted-outcome)
+
+  pub told-back : toZ w32 (ofZ w32 (own .told)) ≡ own .told
+  told-back = toZ-ofZ (size-fits w32 (own .told) (omega (arith, ap size told-law, granted-takes .tells)))
+
   -- The answer shows the grant.
-  shows : {a : List ℕ} →
-      a
-      ≡ answerBytes
-      (A.Granted (k .judged .result .own .ticket) (toZ w32 (ofZ w32 (k .judged .result .own .told))) (k .judged .result .own .amount))
-      [] →
+  pub shows : {a : List ℕ} → a ≡ answerBytes (A.Granted (own .ticket) (toZ w32 (ofZ w32 (own .told))) (own .amount)) [] →
       a ≡ answerBytes (answerOf (grantItem diskTable (at (diskOf d) (q .now)) (asked (diskOf d) q))) []
   unfolding answerOf grantItem
   shows e =
       e
-      ∙ ap (λ (z : ℤ). answerBytes (A.Granted (k .judged .result .own .ticket) z (k .judged .result .own .amount)) [])
-      (toZ-ofZ
-      (size-fits w32 (k .judged .result .own .told)
-      (omega (arith, ap size (ap (λ (j : Judgement). j .own .told) (k .judged .ensures ∙ ap shownBy granted-outcome)), granted-takes .tells))))
-      ∙ ap (λ (x : Item). answerBytes (grantOf x) []) (ap (λ (j : Judgement). j .own) (k .judged .ensures ∙ ap shownBy granted-outcome))
+      ∙ ap (λ (z : ℤ). answerBytes (A.Granted (own .ticket) z (own .amount)) []) told-back
+      ∙ ap (λ (j : Judgement). answerBytes (A.Granted (j .own .ticket) (j .own .told) (j .own .amount)) []) (k .judged .ensures ∙ ap shownBy granted-outcome)
 
 judged-requires : tie.Need-judged-requires
 judged-requires c κs = search needs
@@ -133,19 +137,11 @@ asked-requires c κs = search needs
 put-answer-requires : tie.Need-put-answer-requires
 put-answer-requires c κs = c .before .before .before .before .before .before .before .before .before .before .before .before .before .before .pre .1 .1 .1
 
-is-reading-requires : tie.Need-is-reading-requires
-is-reading-requires c κs = search needs
-
-word-at-requires-2 : tie.Need-word-at-requires-2
-word-at-requires-2 c κs = search needs
-
-read-on-requires : tie.Need-read-on-requires
-unfolding decode
-read-on-requires c κs =
-    let t = c .before .before .before .before .before .before .before .before .before .before in
-    let s = c .before .before .before .before .before .before .before .before .before .before .before .before .before .before .before .before .before .before .before .before .before .before in
-    rw (claim-is (c .before .before .before .before .before .before .before .before .before .before .before .before))
-    (s .pre .0, (omega (arith, c .word-at2 .ensures, granted-takes t .may .place, row-length (good s .active)), granted-takes t .ticket))
+accept-requires : tie.Need-accept-requires
+accept-requires c κs =
+    let t = c .before .before .before .before .before .before .before in
+    let s = c .before .before .before .before .before .before .before .before .before .before .before .before .before .before .before .before .before .before .before in
+    rw (claim-is (c .before .before .before .before .before .before .before .before .before)) (s .pre .0, (s .pre .1 .0, (granted-takes t, told-back t ∙ told-law t)))
 
 same-length-3 : tie.Need-same-length-3
 same-length-3 c = search needs
@@ -154,27 +150,29 @@ same-length-4 : tie.Need-same-length-4
 same-length-4 c = search needs
 
 returns-2 : tie.Need-returns-2
-unfolding answerOf grantItem decode
+unfolding answerOf grantItem
 returns-2 c =
-    let t = c .before .before .before .before .before .before .before .before .before .before .before .before .before in
-    let s = c .before .before .before .before .before .before .before .before .before .before .before .before .before .before .before .before .before .before .before .before .before .before .before .before .before in
-    let p = s .args .part .now in
-    let x = claim-is (c .before .before .before .before .before .before .before .before .before .before .before .before .before .before .before) in
-    let n : c .before .before .before .word-at2 .result ≡ d t .actives = c .before .before .before .word-at2 .ensures in
-    let own = k t .judged .result .own in
+    let t = c .before .before .before .before .before .before .before .before .before .before in
     let i = grantItem diskTable (at (diskOf (d t)) (q t .now)) (asked (diskOf (d t)) (q t)) in
     step-accepted _ (grantedOf (diskOf (d t)) (q t .now) (asked (diskOf (d t)) (q t))) i [] (granted-outcome t) refl
-    (c .before .before .read-on .ensures
-    ∙ (λ j.
-    splice (splice p 0 (flat (q t .now ∷ (x j .ticket + 1) ∷ (n j + 1) ∷ []))) (64 + 44 * n j)
-    (flat (claimWords (putTold (x j) (own .told) (own .amount)))))
-    ∙ read-part (d t) (q t .now) (asked (diskOf (d t)) (q t)) (granted-takes t) (sym (c .before .before .before .before .before .before .before .is-reading .ensures) ∙ c .before .before .before .before .before .before .if3 .taken)
-    (ap (λ (j : Judgement). j .own .told) (k t .judged .ensures ∙ ap shownBy (granted-outcome t)))
-    (sym (encode-decode p (λ j. c .before .before .before .before .before .before .before .before .before .before .before .before .before .before .before .before .before .before .before .before .before .before .before .before .slice-known .given j .fits) (s .pre .0) (s .pre .1 .0))))
-    (shows t (c .before .before .before .before .before .before .before .before .before .before .put-answer .ensures))
+    (c .before .before .accept .ensures ∙ ap (λ (x : Claim). partFor (grantedOf (diskOf (d t)) (q t .now) x)) (claim-is (c .before .before .before .before .before .before .before .before .before .before .before .before)))
+    (shows t (c .before .before .before .before .before .before .before .put-answer .ensures))
 
-grant-on-requires : tie.Need-grant-on-requires
-grant-on-requires c κs = (c .before .before .before .before .before .before .before .before .before .before .before .before .before .before .before .before .before .before .before .before .pre .0, rw (claim-is (c .before .before .before .before .before .before .before .before .before .before)) (granted-takes (c .before .before .before .before .before .before .before .before)))
+put-answer-requires-2 : tie.Need-put-answer-requires-2
+put-answer-requires-2 c κs = c .before .before .before .before .before .before .before .before .before .before .before .before .before .pre .1 .1 .1
+
+wait-requires : tie.Need-wait-requires
+wait-requires c κs =
+    let t = c .before .before .before .before .before in
+    let u = taken (t .before) in
+    let s = c .before .before .before .before .before .before .before .before .before .before .before .before .before .before .before .before .before in
+    let l = diskOf (disk s) in
+    let q = askedOf (s .args .q) in
+    let y : (shownBy (law (u .before .before .before)) .own .code ≡ 0 → ⊥) = λ e. t .if2 .left (code (t .before) ∙ e) in
+    rw (claim-is (c .before .before .before .before .before .before .before)) (
+      s .pre .0,
+      (s .pre .1 .0, (omega (arith, shown-place l q (accepts u) y, row-length (good s .waiting)), ticket-fits l q (shown-passed l q (accepts u)))),
+    )
 
 same-length-5 : tie.Need-same-length-5
 same-length-5 c = search needs
@@ -183,44 +181,8 @@ same-length-6 : tie.Need-same-length-6
 same-length-6 c = search needs
 
 returns-3 : tie.Need-returns-3
-unfolding answerOf grantItem
-returns-3 c =
-    let t = c .before .before .before .before .before .before .before .before .before .before .before in
-    let i = grantItem diskTable (at (diskOf (d t)) (q t .now)) (asked (diskOf (d t)) (q t)) in
-    step-accepted _ (grantedOf (diskOf (d t)) (q t .now) (asked (diskOf (d t)) (q t))) i [] (granted-outcome t) refl
-    (c .before .before .grant-on .ensures ∙ ap (λ (x : Claim). partFor (grantedOf (diskOf (d t)) (q t .now) x)) (claim-is (c .before .before .before .before .before .before .before .before .before .before .before .before .before)))
-    (shows t (c .before .before .before .before .before .before .before .before .put-answer .ensures))
-
-wait-on-requires : tie.Need-wait-on-requires
-wait-on-requires c κs =
-    let u = taken (c .before .before) in
-    let s = c .before .before .before .before .before .before .before .before .before .before .before .before .before in
-    let l = diskOf (disk s) in
-    let q = askedOf (s .args .q) in
-    let y : (shownBy (law (u .before .before .before)) .own .code ≡ 0 → ⊥) = λ e. c .before .if2 .left (code (c .before .before) ∙ e) in
-    rw (claim-is (c .before .before .before)) (
-      s .pre .0,
-      (
-        good s,
-        (
-          omega (arith, shown-place l q (accepts u) y, row-length (good s .waiting)),
-          ticket-fits l q (shown-passed l q (accepts u)),
-        ),
-      ),
-    )
-
-put-answer-requires-2 : tie.Need-put-answer-requires-2
-put-answer-requires-2 c κs = c .before .before .before .before .before .before .before .before .before .before .before .before .before .before .before .before .before .pre .1 .1 .1
-
-same-length-7 : tie.Need-same-length-7
-same-length-7 c = search needs
-
-same-length-8 : tie.Need-same-length-8
-same-length-8 c = search needs
-
-returns-4 : tie.Need-returns-4
 unfolding answerOf
-returns-4 c =
+returns-3 c =
     let t = c .before .before .before .before .before .before .before .before in
     let u = taken (t .before) in
     let s = c .before .before .before .before .before .before .before .before .before .before .before .before .before .before .before .before .before .before .before .before in
@@ -229,8 +191,8 @@ returns-4 c =
     let y : (shownBy (law (u .before .before .before)) .own .code ≡ 0 → ⊥) = λ e. t .if2 .left (code (t .before) ∙ e) in
     let o = claim-waits l q (shown-passed l q (accepts u)) (shown-later l q (accepts u) y) (shown-place l q (accepts u) y) in
     step-accepted _ (waitingOf l (q .now) (asked l q)) (item 1 (l .next)) [] o refl
-    (c .before .before .before .before .before .before .wait-on .ensures ∙ ap (λ (x : Claim). partFor (waitingOf l (q .now) x)) (claim-is (c .before .before .before .before .before .before .before .before .before .before)))
-    (c .before .before .put-answer2 .ensures
+    (c .before .before .wait .ensures ∙ ap (λ (x : Claim). partFor (waitingOf l (q .now) x)) (claim-is (c .before .before .before .before .before .before .before .before .before .before)))
+    (c .before .before .before .before .before .before .put-answer2 .ensures
     ∙ ap (λ (x : ℕ). answerBytes (A.Waits x) []) (ap (λ (j : Judgement). j .own .ticket) (u .before .before .before .judged .ensures ∙ ap shownBy o)))
 
 pub serve-claim-spec : {M : Type 1} → statement M
@@ -246,18 +208,12 @@ serve-claim-spec =
     word-at-requires
     asked-requires
     put-answer-requires
-    is-reading-requires
-    word-at-requires-2
-    read-on-requires
+    accept-requires
     same-length-3
     same-length-4
     returns-2
-    grant-on-requires
+    put-answer-requires-2
+    wait-requires
     same-length-5
     same-length-6
-    returns-3
-    wait-on-requires
-    put-answer-requires-2
-    same-length-7
-    same-length-8
-    returns-4)
+    returns-3)

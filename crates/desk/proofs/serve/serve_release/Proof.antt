@@ -1,37 +1,136 @@
--- The release is refused with its number, or ends the claim; the items are those of the pass.
-use mathlib.Core.List.{[], map}
-use mathlib.Core.Path.{_≡_, refl, sym, ap, _∙_}
+-- The ticket's claim is active, or waits, or there is none, as the law's places say. What an end leaves is a sound part, and the
+-- pass runs over it.
+use Prim.Native.Nat.{ℕ, _≤_, _<_}
+use mathlib.Core.List.{[]}
+use mathlib.Core.Path.{_≡_, ap, _∙_}
+use native.Mathlib.Omega.{arith}
 use borrow.Author.Needs.{needs}
-use Rattle.law.specs.Calls.{item, at, finish, without, letGo, withEnd, release}
+use lib.ListN.{length, take}
+use Rattle.law.specs.Types.{Disk as LawDisk}
+use Rattle.law.specs.Calls.{release}
+use Rattle.law.specs.Sound.{Sound}
 use Rattle.law.specs.DiskType.{diskTable}
-use Rattle.rules.specs.Disks.{diskOf}
-use Rattle.rules.specs.AnswerLaws.{Admits, by-value}
-use Rattle.part.specs.Layout.{encode}
-use Rattle.answer.specs.declared.Refusal.{Refusal}
-use Rattle.answer.specs.declared.Answer.the-variants as A
-use Rattle.answer.specs.Answers.{numberOf, answerBytes}
-use Rattle.part.specs.Held.{partFor}
-use Rattle.desk.specs.Step.{answerOf, grantOf}
-use Rattle.desk.proofs.ServeLaws.{step-refused, step-accepted, grants-answers, pass-grants, items-few, out, ends, admits-refused, release-ends}
+use Rattle.claims.specs.Rows.{placeOf}
+use Rattle.claims.specs.RowLaws.{row-length}
+use Rattle.rules.specs.declared.disk.Disk.{Disk}
+use Rattle.rules.specs.Answers.{endedAt, leftAt, released}
+use Rattle.rules.specs.Disks.{Good}
+use Rattle.rules.proofs.ReleaseLaws.{release-early, release-active, sound-active, release-waiting, sound-waiting, release-lost}
+use Rattle.part.specs.Layout.{decode}
+use Rattle.part.specs.LayoutLaws.{decode-good}
+use Rattle.part.specs.Held.{held}
+use Rattle.place.specs.Holding.{Holds}
+use Rattle.place.specs.HoldingLaws.{decodes-holds, active-slots, waiting-slots}
+use Rattle.answer.specs.Answers.{refusalOf}
+use Rattle.desk.proofs.ServeLaws.{step-refused, made-long, made-decodes, made-sound, settle-as}
 use Rattle.desk.proofs.serve.serve_release.Statement.{statement}
 use Rattle.desk.proofs.serve.serve_release.Tie as tie
 
--- The release is accepted.
-ended : (b : tie.Else1) →
-    release diskTable (diskOf (b .before .before .before .before .before .args .d)) (b .before .before .before .before .before .args .second) (b .before .before .before .before .before .args .ticket)
-    ≡ ends (b .before .before .before .before .before .args .d) (b .before .before .before .before .before .args .second) (b .before .before .before .before .before .args .ticket)
-ended b =
-    let a = b .before .before .before .before .before .args in
-    release-ends (a .d) (a .second) (a .ticket) (b .before .before .release .result) (b .before .before .release .ensures) (b .if1 .left)
+-- The disk of the part.
+abbrev disk : tie.Start → Disk
+disk k = decode (k .args .part .now)
 
-tells : (b : tie.Else1) → Admits (b .before .before .before .before .before .args .d) (b .before .before .release .result) (ends (b .before .before .before .before .before .args .d) (b .before .before .before .before .before .args .second) (b .before .before .before .before .before .args .ticket))
-tells b = rw (ended b) at (b .before .before .release .ensures)
+abbrev law : tie.Start → LawDisk
+law k = held (k .args .part .now)
 
-release-requires : tie.Need-release-requires
-release-requires c κs = search needs
+good : (k : tie.Start) → Good (disk k)
+good k = decode-good (k .args .part .now) (k .pre .0) (k .pre .1 .0)
 
-refusal-of-requires : tie.Need-refusal-of-requires
-refusal-of-requires c κs = search needs
+whole : (k : tie.After-slice-known) → Holds (k .before .args .part .now) (disk (k .before))
+whole k = decodes-holds (k .before .args .part .now) (λ i. k .slice-known .given i .fits) (k .before .pre .0) (k .before .pre .1 .0)
+
+-- The clock, and how many are active and wait, as they are read.
+clock : (k : tie.After-word-at) → k .word-at .result ≡ disk (k .before .before .before .before) .clock
+unfolding decode
+clock k = k .word-at .ensures
+
+actives : (k : tie.After-word-at2) → k .word-at2 .result ≡ disk (k .before .before .before .before .before .before .before) .actives
+unfolding decode
+actives k = k .word-at2 .ensures
+
+waitings : (k : tie.After-word-at3) → k .word-at3 .result ≡ disk (k .before .before .before .before .before .before .before .before .before .before .before .before .before) .waitings
+unfolding decode
+waitings k = k .word-at3 .ensures
+
+-- It is not early.
+late : (b : tie.Else1) → disk (b .before .before .before .before .before) .clock ≤ b .before .before .before .before .before .args .second
+late b = omega (arith, b .if1 .left, clock (b .before))
+
+-- ---- among the active claims
+
+place : (f : tie.After-find-in) → f .find-in .result ≡ placeOf (f .before .before .before .before .before .before .before .before .before .before .args .ticket) (law (f .before .before .before .before .before .before .before .before .before .before) .core .active)
+place f =
+    f .find-in .ensures .0
+    ∙ (λ i. placeOf (f .before .before .before .before .before .before .before .before .before .before .args .ticket) (take (actives (f .before .before .before) i) (active-slots (whole (f .before .before .before .before .before .before .before .before .before)) i)))
+
+module _ (b : tie.Then2) where
+  abbrev start : tie.Start
+  start = b .before .before .before .before .before .before .before .before .before .before .before
+
+  abbrev at : ℕ
+  at = b .before .find-in .result
+
+  pub here : at < disk start .actives
+  here = omega (arith, b .if2 .taken, actives (b .before .before .before .before))
+
+  there : at < length (law start .core .active)
+  there = omega (arith, here, row-length (good start .active))
+
+  -- What is left is sound, and its pass is that of the release.
+  abbrev pub ended : LawDisk
+  ended = endedAt (law start) (start .args .second) at
+
+  pub clock-ended : ended .core .clock < 4294967296
+  unfolding endedAt
+  clock-ended = omega (arith, start .fits .second)
+
+  pub sound-ended : Sound diskTable ended
+  sound-ended = sound-active (law start) (start .args .second) (start .args .ticket) (late (b .before .before .before .before .before .before)) at (place (b .before)) there (start .pre .1 .1 .0)
+
+  pub release-ended : release diskTable (law start) (start .args .second) (start .args .ticket) ≡ released ended (start .args .ticket)
+  release-ended = release-active (law start) (start .args .second) (start .args .ticket) (late (b .before .before .before .before .before .before)) at (place (b .before)) there (start .pre .1 .1 .0)
+
+-- ---- none of them has it
+
+none : (b : tie.Else2) → length (law (b .before .before .before .before .before .before .before .before .before .before .before) .core .active) ≤ placeOf (b .before .before .before .before .before .before .before .before .before .before .before .args .ticket) (law (b .before .before .before .before .before .before .before .before .before .before .before) .core .active)
+none b = omega (arith, b .if2 .left, actives (b .before .before .before .before), place (b .before), row-length (good (b .before .before .before .before .before .before .before .before .before .before .before) .active))
+
+-- ---- among the waiting claims
+
+place-2 : (f : tie.After-find-in2) → f .find-in2 .result ≡ placeOf (f .before .before .before .before .before .before .before .before .before .before .before .before .before .before .before .before .args .ticket) (law (f .before .before .before .before .before .before .before .before .before .before .before .before .before .before .before .before) .waiting)
+place-2 f =
+    f .find-in2 .ensures .0
+    ∙ (λ i. placeOf (f .before .before .before .before .before .before .before .before .before .before .before .before .before .before .before .before .args .ticket) (take (waitings (f .before .before .before) i) (waiting-slots (whole (f .before .before .before .before .before .before .before .before .before .before .before .before .before .before .before)) i)))
+
+module _ (b : tie.Then3) where
+  abbrev start-2 : tie.Start
+  start-2 = b .before .before .before .before .before .before .before .before .before .before .before .before .before .before .before .before .before
+
+  abbrev at-2 : ℕ
+  at-2 = b .before .find-in2 .result
+
+  pub here-2 : at-2 < disk start-2 .waitings
+  here-2 = omega (arith, b .if3 .taken, waitings (b .before .before .before .before))
+
+  abbrev pub left : LawDisk
+  left = leftAt (law start-2) (start-2 .args .second) at-2
+
+  pub clock-left : left .core .clock < 4294967296
+  unfolding leftAt
+  clock-left = omega (arith, start-2 .fits .second)
+
+  pub sound-left : Sound diskTable left
+  sound-left =
+      sound-waiting (law start-2) (start-2 .args .second) (start-2 .args .ticket) (late (b .before .before .before .before .before .before .before .before .before .before .before .before)) (none (b .before .before .before .before .before .before)) at-2 (place-2 (b .before))
+      (start-2 .pre .1 .1 .0)
+
+  pub release-left : release diskTable (law start-2) (start-2 .args .second) (start-2 .args .ticket) ≡ released left (start-2 .args .ticket)
+  release-left =
+      release-waiting (law start-2) (start-2 .args .second) (start-2 .args .ticket) (late (b .before .before .before .before .before .before .before .before .before .before .before .before)) (none (b .before .before .before .before .before .before)) at-2 (place-2 (b .before))
+      (omega (arith, here-2, row-length (good start-2 .waiting)))
+
+word-at-requires : tie.Need-word-at-requires
+word-at-requires c κs = search needs
 
 refuse-requires : tie.Need-refuse-requires
 refuse-requires c κs = search needs
@@ -39,58 +138,159 @@ refuse-requires c κs = search needs
 same-length : tie.Need-same-length
 same-length c = search needs
 
-returns : tie.Need-returns
-returns c =
-    let k = c .before .before .before .before .before .before .before in
-    let a = k .before .before .before .args in
-    let r = c .before .before .before .refusal-of .ensures in
-    let e = c .before .before .refuse .ensures in
-    step-refused _ (k .release .result .refusal)
-    (admits-refused (a .d) (k .release .result) (out (a .d) (a .second) (a .ticket)) (k .release .ensures) (c .before .before .before .before .before .if1 .taken))
-    (e .0 ∙ ap numberOf r) (e .1 ∙ ap (λ (x : Refusal). answerBytes (A.Refused x) []) r)
-
-put-disk-requires : tie.Need-put-disk-requires
-put-disk-requires c κs = search needs
-
-put-answer-requires : tie.Need-put-answer-requires
-put-answer-requires c κs = search needs
-
-put-grants-requires : tie.Need-put-grants-requires
-put-grants-requires c κs = (search needs, items-few (tells (c .before .before .before .before .before .before .before .before .before .before .before) .3))
-
 same-length-2 : tie.Need-same-length-2
 same-length-2 c = search needs
+
+returns : tie.Need-returns
+unfolding refusalOf
+returns c =
+    let k = c .before .before .before .before .before .before .before .before .before in
+    let e = c .before .before .refuse .ensures in
+    step-refused (k .args .part .now) 15
+    (release-early (law k) (k .args .second) (k .args .ticket) (omega (arith, c .before .before .before .before .if1 .taken, clock (c .before .before .before .before .before)))) (e .0) (e .1)
+
+word-at-requires-2 : tie.Need-word-at-requires-2
+word-at-requires-2 c κs = search needs
+
+cast-actives : tie.Need-cast-actives
+cast-actives c = search needs
+
+sub-find-in : tie.Need-sub-find-in
+sub-find-in c = search needs
+
+part-find-in-start : tie.Need-part-find-in-start
+part-find-in-start c = search needs
+
+part-find-in-end : tie.Need-part-find-in-end
+part-find-in-end c = search needs
+
+find-in-requires : tie.Need-find-in-requires
+find-in-requires c κs =
+    (search needs, rw (active-slots (whole (c .before .before .before .before .before .before .before .before)), actives (c .before .before)) (good (c .before .before .before .before .before .before .before .before .before) .active))
+
+end-requires : tie.Need-end-requires
+end-requires c κs =
+    let k = c .before .before .before .before .before .before .before .before .before .before .before .before in
+    (k .pre .0, (k .pre .1 .0, (k .pre .1 .1 .0, here (c .before))))
+
+settle-requires : tie.Need-settle-requires
+settle-requires c κs =
+    let b = c .before .before .before .before .before .before in
+    let is = c .before .before .before .before .«end» .ensures in
+    let e = ended b in
+    let h = sound-ended b in
+    let t = clock-ended b in
+    (made-long e h t is, (made-decodes e h t is, (made-sound e h t is, c .before .before .before .before .before .before .before .before .before .before .before .before .before .before .before .before .before .pre .1 .1 .1)))
 
 same-length-3 : tie.Need-same-length-3
 same-length-3 c = search needs
 
+same-length-4 : tie.Need-same-length-4
+same-length-4 c = search needs
+
 returns-2 : tie.Need-returns-2
-unfolding answerOf partFor
 returns-2 c =
-    let b = c .before .before .before .before .before .before .before .before .before .before .before .before .before .before in
-    let k = b .before .before in
-    let a = k .before .before .before .args in
-    let t = tells b in
-    let l = letGo diskTable (diskOf (a .d)) (a .second) (a .ticket) .items in
-    step-accepted _ (withEnd diskTable (diskOf (a .d)) (a .second) (a .ticket)) (item 2 (a .ticket)) l (ended b) refl
-    (c .before .before .before .before .before .before .before .before .before .before .put-disk .ensures ∙ ap encode (by-value (t .1)))
-    (c .before .before .put-grants .ensures (A.Released (a .ticket)) (c .before .before .before .before .before .before .put-answer .ensures)
-    ∙ ap (answerBytes (A.Released (a .ticket)))
-    (ap (map grantOf) (t .3 .shows)
-    ∙ sym (grants-answers l (pass-grants (finish diskTable (at (diskOf (a .d)) (a .second)) (a .ticket)) (without (a .ticket) (diskOf (a .d) .waiting))))))
+    let b = c .before .before .before .before .before .before .before .before .before .before .before in
+    let k = c .before .before .before .before .before .before .before .before .before .before .before .before .before .before .before .before .before .before .before .before .before .before in
+    settle-as (ended b) (sound-ended b) (clock-ended b) (c .before .before .before .before .before .before .before .before .before .«end» .ensures) (k .args .part .now) (k .args .ticket) (release-ended b) (c .before .before .before .before .settle .ensures)
+
+word-at-requires-3 : tie.Need-word-at-requires-3
+word-at-requires-3 c κs = search needs
+
+cast-waitings : tie.Need-cast-waitings
+cast-waitings c = search needs
+
+sub-find-in-2 : tie.Need-sub-find-in-2
+sub-find-in-2 c = search needs
+
+part-find-in-start-2 : tie.Need-part-find-in-start-2
+part-find-in-start-2 c = search needs
+
+part-find-in-end-2 : tie.Need-part-find-in-end-2
+part-find-in-end-2 c = search needs
+
+find-in-requires-2 : tie.Need-find-in-requires-2
+find-in-requires-2 c κs =
+    (search needs, rw (waiting-slots (whole (c .before .before .before .before .before .before .before .before .before .before .before .before .before .before)), waitings (c .before .before)) (good (c .before .before .before .before .before .before .before .before .before .before .before .before .before .before .before) .waiting))
+
+leave-requires : tie.Need-leave-requires
+leave-requires c κs =
+    let k = c .before .before .before .before .before .before .before .before .before .before .before .before .before .before .before .before .before .before in
+    (k .pre .0, (k .pre .1 .0, here-2 (c .before)))
+
+settle-requires-2 : tie.Need-settle-requires-2
+settle-requires-2 c κs =
+    let b = c .before .before .before .before .before .before in
+    let is = c .before .before .before .before .leave .ensures in
+    let e = left b in
+    let h = sound-left b in
+    let t = clock-left b in
+    (made-long e h t is, (made-decodes e h t is, (made-sound e h t is, c .before .before .before .before .before .before .before .before .before .before .before .before .before .before .before .before .before .before .before .before .before .before .before .pre .1 .1 .1)))
+
+same-length-5 : tie.Need-same-length-5
+same-length-5 c = search needs
+
+same-length-6 : tie.Need-same-length-6
+same-length-6 c = search needs
+
+returns-3 : tie.Need-returns-3
+returns-3 c =
+    let b = c .before .before .before .before .before .before .before .before .before .before .before in
+    let k = c .before .before .before .before .before .before .before .before .before .before .before .before .before .before .before .before .before .before .before .before .before .before .before .before .before .before .before .before in
+    settle-as (left b) (sound-left b) (clock-left b) (c .before .before .before .before .before .before .before .before .before .leave .ensures) (k .args .part .now) (k .args .ticket) (release-left b) (c .before .before .before .before .settle2 .ensures)
+
+refuse-requires-2 : tie.Need-refuse-requires-2
+refuse-requires-2 c κs = search needs
+
+same-length-7 : tie.Need-same-length-7
+same-length-7 c = search needs
+
+same-length-8 : tie.Need-same-length-8
+same-length-8 c = search needs
+
+returns-4 : tie.Need-returns-4
+unfolding refusalOf
+returns-4 c =
+    let k = c .before .before .before .before .before .before .before .before .before .before .before .before .before .before .before .before .before .before .before .before .before in
+    let e = c .before .before .refuse2 .ensures in
+    let f = c .before .before .before .before .before in
+    step-refused (k .args .part .now) 21
+    (release-lost (law k) (k .args .second) (k .args .ticket) (late (c .before .before .before .before .before .before .before .before .before .before .before .before .before .before .before .before)) (none (c .before .before .before .before .before .before .before .before .before .before))
+    (omega (arith, c .before .before .before .before .if3 .left, waitings (c .before .before .before .before .before .before .before .before), place-2 f, row-length (good k .waiting))))
+    (e .0) (e .1)
 
 pub serve-release-spec : {M : Type 1} → statement M
 serve-release-spec =
     tie.close
     (tie.spec
-    release-requires
-    refusal-of-requires
+    word-at-requires
     refuse-requires
     same-length
-    returns
-    put-disk-requires
-    put-answer-requires
-    put-grants-requires
     same-length-2
+    returns
+    word-at-requires-2
+    cast-actives
+    sub-find-in
+    part-find-in-start
+    part-find-in-end
+    find-in-requires
+    end-requires
+    settle-requires
     same-length-3
-    returns-2)
+    same-length-4
+    returns-2
+    word-at-requires-3
+    cast-waitings
+    sub-find-in-2
+    part-find-in-start-2
+    part-find-in-end-2
+    find-in-requires-2
+    leave-requires
+    settle-requires-2
+    same-length-5
+    same-length-6
+    returns-3
+    refuse-requires-2
+    same-length-7
+    same-length-8
+    returns-4)

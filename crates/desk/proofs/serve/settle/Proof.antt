@@ -1,0 +1,43 @@
+-- The release is answered, and the grants of the pass stand behind it.
+use mathlib.Core.List.{map}
+use mathlib.Core.Path.{_≡_, refl, ap, _∙_}
+use borrow.Author.Needs.{needs}
+use Rattle.law.specs.Calls.{item, pass}
+use Rattle.law.specs.DiskType.{diskTable}
+use Rattle.rules.specs.Answers.{released}
+use Rattle.part.specs.Held.{held}
+use Rattle.answer.specs.declared.Answer.the-variants as A
+use Rattle.answer.specs.Answers.{answerBytes}
+use Rattle.pass.specs.Turns.{passedOf}
+use Rattle.desk.specs.Step.{answerOf}
+use Rattle.desk.proofs.ServeLaws.{step-accepted, pass-answers}
+use Rattle.desk.proofs.serve.settle.Statement.{statement}
+use Rattle.desk.proofs.serve.settle.Tie as tie
+
+put-answer-requires : tie.Need-put-answer-requires
+put-answer-requires c κs = search needs
+
+pass-requires : tie.Need-pass-requires
+pass-requires c κs =
+    let k = c .before .before .before .before .before .before .before .before in
+    (k .pre .0, (k .pre .1 .0, (k .pre .1 .1 .0, search needs)))
+
+same-length : tie.Need-same-length
+same-length c = search needs
+
+same-length-2 : tie.Need-same-length-2
+same-length-2 c = search needs
+
+returns : tie.Need-returns
+unfolding released passedOf answerOf
+returns c =
+    let k = c .before .before .before .before .before .before .before .before .before .before .before .before .before in
+    let e = held (k .args .part .now) in
+    let t = k .args .ticket in
+    let p = c .before .before .before .before .pass .ensures in
+    step-accepted (k .args .part .now) (passedOf e) (item 2 t) (pass diskTable (e .core) (e .waiting) .items) refl refl (p .0)
+    (p .1 (A.Released t) (c .before .before .before .before .before .before .before .before .before .put-answer .ensures)
+    ∙ ap (answerBytes (A.Released t)) (pass-answers (e .core) (e .waiting)))
+
+pub settle-spec : {M : Type 1} → statement M
+settle-spec = tie.close (tie.spec put-answer-requires pass-requires same-length same-length-2 returns)
