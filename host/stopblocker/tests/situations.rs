@@ -25,6 +25,7 @@ both!(
     no_signed_sum,
     gap_from_present_value,
     stale_reading_bars_nobody,
+    adds_count_in_full,
 );
 
 #[test]
@@ -271,4 +272,25 @@ fn stale_reading_bars_nobody<D: Desk>() {
         granted(2, 0, 0)
     );
     assert_eq!(desk.release(301, 2), released(2, &[(1, 8, 0)]));
+}
+
+// (d): an add of d waits unless |value| + the sum of |d'| over active adds + |d| ≤ 1,000,000,000.
+
+fn adds_count_in_full<D: Desk>() {
+    let mut desk = D::opened(1_000, 1_000);
+    assert_eq!(
+        desk.claim(write(ADD_PROMISED, -999_999_998, 0)),
+        granted(1, 0, 0)
+    );
+    assert_eq!(desk.claim(write(ADD_PROMISED, 1, 0)), granted(2, 0, 0));
+    assert_eq!(desk.claim(write(ADD_PROMISED, 2, 0)), waits(3));
+    assert_eq!(desk.claim(write(ADD_PROMISED, -1, 0)), granted(4, 0, 0));
+    assert_eq!(desk.claim(write(ADD_PROMISED, 1, 0)), waits(5));
+    // the value is -1: 1 + 999,999,998 + 1 + 2, and + 1, are too much
+    assert_eq!(desk.release(0, 4), released(4, &[]));
+    // the value is 0: 999,999,998 + 2 is just enough, and 1 more too much
+    assert_eq!(desk.release(0, 2), released(2, &[(3, 0, 0)]));
+    // the value is -999,999,998: 2 is active, and 1 more too much
+    assert_eq!(desk.release(0, 1), released(1, &[]));
+    assert_eq!(desk.release(0, 3), released(3, &[(5, 0, 0)]));
 }
