@@ -111,11 +111,7 @@ impl Item {
     }
 
     fn granted(self) -> Granted {
-        Granted {
-            ticket: self.ticket,
-            told: self.told,
-            amount: self.amount,
-        }
+        Granted { ticket: self.ticket, told: self.told, amount: self.amount }
     }
 }
 
@@ -128,18 +124,10 @@ impl Answer {
             1 => Answer::Waits(Waits { ticket: own.ticket }),
             2 => Answer::Released(Released {
                 ticket: own.ticket,
-                grants: pass
-                    .iter()
-                    .take_while(|item| item.ticket != 0)
-                    .map(|item| item.granted())
-                    .collect(),
+                grants: pass.iter().take_while(|item| item.ticket != 0).map(|item| item.granted()).collect(),
             }),
             3 => Answer::Opened(Opened),
-            number => {
-                return Err(
-                    Refusal::of(number).expect("every call ends with a code 0 to 3 or a refusal")
-                )
-            }
+            number => return Err(Refusal::of(number).expect("every call ends with a code 0 to 3 or a refusal")),
         })
     }
 }

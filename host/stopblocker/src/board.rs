@@ -1,9 +1,7 @@
 //! The board, and the calls on it.
 
 use crate::layout::{part_at, ANSWER_BYTES, BOARD_BYTES, OPEN_BYTES, PART_BYTES};
-use crate::{
-    step, Answer, Claim, Claimed, Disk, DiskView, Open, Opened, Refusal, Release, Released, Request,
-};
+use crate::{step, Answer, Claim, Claimed, Disk, DiskView, Open, Opened, Refusal, Release, Released, Request};
 use std::error::Error;
 use std::fmt;
 
@@ -44,21 +42,15 @@ impl Error for WrongLength {}
 impl Board {
     /// The empty board: every disk is closed.
     pub fn new() -> Board {
-        Board {
-            bytes: vec![0; BOARD_BYTES].into_boxed_slice(),
-        }
+        Board { bytes: vec![0; BOARD_BYTES].into_boxed_slice() }
     }
 
     /// A board of these bytes, whatever they hold: a call on a disk whose part isn't sound is refused 14.
     pub fn from_bytes(bytes: &[u8]) -> Result<Board, WrongLength> {
         if bytes.len() == BOARD_BYTES {
-            Ok(Board {
-                bytes: bytes.into(),
-            })
+            Ok(Board { bytes: bytes.into() })
         } else {
-            Err(WrongLength {
-                length: bytes.len(),
-            })
+            Err(WrongLength { length: bytes.len() })
         }
     }
 
@@ -107,17 +99,13 @@ impl Board {
 
     /// The number of open disks.
     pub fn open_disks(&self) -> u32 {
-        self.bytes[..OPEN_BYTES]
-            .iter()
-            .map(|byte| byte.count_ones())
-            .sum()
+        self.bytes[..OPEN_BYTES].iter().map(|byte| byte.count_ones()).sum()
     }
 
     /// An open disk as it stands on the board; none of a closed one.
     pub fn disk(&self, disk: Disk) -> Option<DiskView<'_>> {
         let at = part_at(usize::from(disk.number()));
-        self.is_open(disk)
-            .then(|| DiskView::of(&self.bytes[at..at + PART_BYTES]))
+        self.is_open(disk).then(|| DiskView::of(&self.bytes[at..at + PART_BYTES]))
     }
 }
 
@@ -129,8 +117,6 @@ impl Default for Board {
 
 impl fmt::Debug for Board {
     fn fmt(&self, f: &mut fmt::Formatter<'_>) -> fmt::Result {
-        f.debug_map()
-            .entries(Disk::all().filter_map(|d| self.disk(d).map(|view| (d.number(), view))))
-            .finish()
+        f.debug_map().entries(Disk::all().filter_map(|d| self.disk(d).map(|view| (d.number(), view)))).finish()
     }
 }

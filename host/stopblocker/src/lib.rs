@@ -39,6 +39,8 @@
 
 mod answer;
 mod board;
+mod claim;
+mod disk;
 pub mod layout;
 #[allow(unsafe_code)]
 mod raw;
@@ -48,7 +50,9 @@ mod view;
 
 pub use answer::{Answer, Claimed, Granted, Item, Opened, Released, Waits};
 pub use board::{Board, WrongLength};
+pub use claim::Claim;
+pub use disk::{Disk, Method};
 pub use raw::step;
 pub use refusal::Refusal;
-pub use request::{Claim, Disk, Method, Open, Release, Request};
+pub use request::{Open, Release, Request};
 pub use view::{ClaimView, DiskView, Figure, State};

@@ -32,13 +32,6 @@ pub fn step(board: &mut [u8], record: &[u8], answer: &mut [u8]) -> u32 {
     // SAFETY: the three slices are valid for their lengths and do not overlap, since two of them are exclusive; `step`
     // reads and writes only within them, keeps no pointer and does not unwind.
     unsafe {
-        c::step(
-            board.as_mut_ptr(),
-            board.len(),
-            record.as_ptr(),
-            record.len(),
-            answer.as_mut_ptr(),
-            answer.len(),
-        )
+        c::step(board.as_mut_ptr(), board.len(), record.as_ptr(), record.len(), answer.as_mut_ptr(), answer.len())
     }
 }

@@ -102,10 +102,7 @@ impl<'a> DiskView<'a> {
 
     /// State.
     pub fn state(&self) -> State {
-        State {
-            code: signed_at(self.part, part::STATE),
-            stamp: word_at(self.part, part::STATE + 4),
-        }
+        State { code: signed_at(self.part, part::STATE), stamp: word_at(self.part, part::STATE + 4) }
     }
 
     /// The active claims, in the order of their grants.
@@ -131,10 +128,7 @@ impl<'a> DiskView<'a> {
     fn claims(&self, count: usize, at: usize) -> impl Iterator<Item = ClaimView> + 'a {
         let slots = &self.part[at..at + CLAIMS * SLOT_BYTES];
         let count = word_at(self.part, count).min(CLAIMS as u32);
-        slots
-            .chunks_exact(SLOT_BYTES)
-            .take(count as usize)
-            .map(ClaimView::of)
+        slots.chunks_exact(SLOT_BYTES).take(count as usize).map(ClaimView::of)
     }
 }
 

@@ -2,8 +2,7 @@
 
 use stopblocker::layout::{ANSWER_BYTES, BOARD_BYTES, RECORD_BYTES};
 use stopblocker::{
-    Board, Claim, ClaimView, Disk, Figure, Item, Method, Open, Refusal, Release, Request, State,
-    WrongLength,
+    Board, Claim, ClaimView, Disk, Figure, Item, Method, Open, Refusal, Release, Request, State, WrongLength,
 };
 
 fn disk(number: u8) -> Disk {
@@ -15,57 +14,23 @@ fn a_view_of_every_figure_and_claim() {
     let d = disk(3);
     let mut board = Board::new();
     board.open(Open::new(d, 100, 1_000, 500)).unwrap();
-    board
-        .claim(Claim::report_used(d, 110, -40, 3).measured(90).priority(5))
-        .unwrap();
-    board
-        .claim(Claim::set_promised(d, 110, 200, 1).measured(95))
-        .unwrap();
-    board
-        .claim(Claim::set_state(d, 110, 255).measured(109))
-        .unwrap();
+    board.claim(Claim::report_used(d, 110, -40, 3).measured(90).priority(5)).unwrap();
+    board.claim(Claim::set_promised(d, 110, 200, 1).measured(95)).unwrap();
+    board.claim(Claim::set_state(d, 110, 255).measured(109)).unwrap();
     board.release(Release::new(d, 111, 1)).unwrap();
     board.release(Release::new(d, 111, 2)).unwrap();
     board.release(Release::new(d, 111, 3)).unwrap();
-    board
-        .claim(Claim::read_load(d, 112, 2_000).priority(255).fresh())
-        .unwrap();
-    board
-        .claim(Claim::add_promised(d, 113, -7, 2).priority(1))
-        .unwrap();
+    board.claim(Claim::read_load(d, 112, 2_000).priority(255).fresh()).unwrap();
+    board.claim(Claim::add_promised(d, 113, -7, 2).priority(1)).unwrap();
     board.claim(Claim::set_state(d, 114, 9)).unwrap();
     board.claim(Claim::read_state(d, 115).priority(4)).unwrap();
-    board
-        .claim(Claim::set_promised(d, 116, 11, 1).priority(8))
-        .unwrap();
+    board.claim(Claim::set_promised(d, 116, 11, 1).priority(8)).unwrap();
 
     let view = board.disk(d).unwrap();
     assert_eq!((view.clock(), view.next_ticket()), (116, 9));
-    assert_eq!(
-        view.used(),
-        Figure {
-            value: -40,
-            stamp: 90,
-            amount: 3,
-            limit: 1_000
-        }
-    );
-    assert_eq!(
-        view.promised(),
-        Figure {
-            value: 200,
-            stamp: 95,
-            amount: 3,
-            limit: 500
-        }
-    );
-    assert_eq!(
-        view.state(),
-        State {
-            code: 255,
-            stamp: 109
-        }
-    );
+    assert_eq!(view.used(), Figure { value: -40, stamp: 90, amount: 3, limit: 1_000 });
+    assert_eq!(view.promised(), Figure { value: 200, stamp: 95, amount: 3, limit: 500 });
+    assert_eq!(view.state(), State { code: 255, stamp: 109 });
     let none = ClaimView {
         ticket: 0,
         method: None,
@@ -98,13 +63,7 @@ fn a_view_of_every_figure_and_claim() {
             error: 2,
             ..none
         },
-        ClaimView {
-            ticket: 6,
-            method: Some(Method::SetState),
-            measured: 114,
-            value: 9,
-            ..none
-        },
+        ClaimView { ticket: 6, method: Some(Method::SetState), measured: 114, value: 9, ..none },
     ];
     let waiting = [
         ClaimView {
@@ -116,12 +75,7 @@ fn a_view_of_every_figure_and_claim() {
             error: 1,
             ..none
         },
-        ClaimView {
-            ticket: 7,
-            method: Some(Method::ReadState),
-            priority: 4,
-            ..none
-        },
+        ClaimView { ticket: 7, method: Some(Method::ReadState), priority: 4, ..none },
     ];
     assert_eq!(view.active().collect::<Vec<_>>(), active);
     assert_eq!(view.waiting().collect::<Vec<_>>(), waiting);
@@ -142,10 +96,7 @@ fn a_view_of_any_bytes() {
 #[test]
 fn boards_and_their_bytes() {
     for length in [0, BOARD_BYTES - 1, BOARD_BYTES + 1] {
-        assert_eq!(
-            Board::from_bytes(&vec![0; length]),
-            Err(WrongLength { length })
-        );
+        assert_eq!(Board::from_bytes(&vec![0; length]), Err(WrongLength { length }));
     }
     assert_eq!(Board::new(), Board::default());
     assert_eq!(Board::new().as_bytes(), [0; BOARD_BYTES]);
@@ -159,10 +110,7 @@ fn boards_and_their_bytes() {
         assert!(board.is_open(disk(number)) && board.disk(disk(number)).is_some());
         assert_eq!(board.open_disks(), k as u32 + 1);
     }
-    assert_eq!(
-        board.as_bytes()[..8],
-        [0b1000_0001, 1, 0, 0, 0b1000, 0, 0, 0b1000_0000]
-    );
+    assert_eq!(board.as_bytes()[..8], [0b1000_0001, 1, 0, 0, 0b1000, 0, 0, 0b1000_0000]);
     assert_eq!(Disk::all().filter(|&d| board.is_open(d)).count(), 5);
     assert_eq!(Board::from_bytes(board.as_bytes()), Ok(board));
 }
@@ -170,8 +118,7 @@ fn boards_and_their_bytes() {
 #[test]
 fn a_board_goes_to_another_thread() {
     let mut board = Board::new();
-    let board =
-        std::thread::spawn(move || board.open(Open::new(disk(0), 0, 1, 1)).map(|_| board)).join();
+    let board = std::thread::spawn(move || board.open(Open::new(disk(0), 0, 1, 1)).map(|_| board)).join();
     assert_eq!(board.unwrap().unwrap().open_disks(), 1);
 }
 
@@ -208,11 +155,7 @@ fn what_the_types_cannot_ask() {
         };
         let claim = claim.priority(number(256) as u8);
         let claim = if number(8) == 0 { claim.fresh() } else { claim };
-        let claim = if number(8) == 0 {
-            claim.measured(now)
-        } else {
-            claim
-        };
+        let claim = if number(8) == 0 { claim.measured(now) } else { claim };
         let request = match number(9) % 9 {
             0 => Request::Open(Open::new(d, now, error, ticket)),
             1..=5 => Request::Claim(claim),
@@ -253,24 +196,16 @@ fn every_refusal_says_its_sentence() {
     assert_eq!(sentences.len(), Refusal::ALL.len());
     for ((number, sentence), refusal) in sentences.into_iter().zip(Refusal::ALL) {
         assert_eq!(Refusal::of(number), Some(refusal));
-        assert_eq!(
-            (refusal.number(), refusal.to_string()),
-            (number, sentence.to_string())
-        );
+        assert_eq!((refusal.number(), refusal.to_string()), (number, sentence.to_string()));
         let _: &dyn std::error::Error = &refusal;
     }
-    assert!([0, 1, 2, 3, 4, 8, 22, u32::MAX]
-        .into_iter()
-        .all(|number| Refusal::of(number).is_none()));
+    assert!([0, 1, 2, 3, 4, 8, 22, u32::MAX].into_iter().all(|number| Refusal::of(number).is_none()));
 }
 
 #[test]
 fn methods_and_disks_by_number() {
     for (number, method) in Method::ALL.into_iter().enumerate() {
-        assert_eq!(
-            (method.number(), Method::of(number as u32)),
-            (number as u8, Some(method))
-        );
+        assert_eq!((method.number(), Method::of(number as u32)), (number as u8, Some(method)));
         assert_eq!(method.is_reading(), number >= 4);
     }
     assert!(Method::of(7).is_none() && Method::of(u32::MAX).is_none());
@@ -278,9 +213,6 @@ fn methods_and_disks_by_number() {
     assert_eq!(all, (0..64).collect::<Vec<u8>>());
     assert!((64..=255).all(|number| Disk::new(number).is_none()));
     let release = Request::from(Release::new(disk(9), 1, 2));
-    assert_eq!(
-        (release.disk(), release.record().len()),
-        (disk(9), RECORD_BYTES)
-    );
+    assert_eq!((release.disk(), release.record().len()), (disk(9), RECORD_BYTES));
     assert_eq!(Item::all(&[0; ANSWER_BYTES]), [Item::default(); 9]);
 }

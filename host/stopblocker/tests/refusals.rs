@@ -49,11 +49,7 @@ fn refused_9() {
         ] {
             let mut board = vec![0xa5; board_len];
             let mut answer = vec![0x5a; answer_len];
-            assert_eq!(
-                step(&mut board, record, &mut answer),
-                9,
-                "{board_len} {answer_len}"
-            );
+            assert_eq!(step(&mut board, record, &mut answer), 9, "{board_len} {answer_len}");
             assert_eq!(board, vec![0xa5; board_len]);
             assert_eq!(answer, vec![0x5a; answer_len]);
         }
@@ -77,27 +73,10 @@ fn refused_10() {
             assert_eq!(desk.call(&record[..23]), refused(10));
             assert_eq!(desk.call(&[&record[..], &[0]].concat()), refused(10));
             assert_eq!(desk.call(&[]), refused(10));
-            for (at, byte) in [
-                (0, 0x53),
-                (0, 0),
-                (1, 0x43),
-                (1, 0),
-                (2, 0),
-                (2, 4),
-                (2, 255),
-                (7, 1),
-                (7, 255),
-            ] {
-                assert_eq!(
-                    desk.call(&with(record, at, byte)),
-                    refused(10),
-                    "byte {at} = {byte}"
-                );
+            for (at, byte) in [(0, 0x53), (0, 0), (1, 0x43), (1, 0), (2, 0), (2, 4), (2, 255), (7, 1), (7, 255)] {
+                assert_eq!(desk.call(&with(record, at, byte)), refused(10), "byte {at} = {byte}");
             }
-            assert_eq!(
-                desk.call(&with(with(record, 0, 0x42), 1, 0x52)),
-                refused(10)
-            );
+            assert_eq!(desk.call(&with(with(record, 0, 0x42), 1, 0x52)), refused(10));
         }
         for byte in [2, 3, 128, 255] {
             assert_eq!(desk.call(&with(claim, 6, byte)), refused(10));
@@ -105,18 +84,10 @@ fn refused_10() {
         }
         for byte in [1, 128, 255] {
             for at in (4..=6).chain(12..=15) {
-                assert_eq!(
-                    desk.call(&with(open, at, byte)),
-                    refused(10),
-                    "open, byte {at}"
-                );
+                assert_eq!(desk.call(&with(open, at, byte)), refused(10), "open, byte {at}");
             }
             for at in (4..=6).chain(16..=23) {
-                assert_eq!(
-                    desk.call(&with(release, at, byte)),
-                    refused(10),
-                    "release, byte {at}"
-                );
+                assert_eq!(desk.call(&with(release, at, byte)), refused(10), "release, byte {at}");
             }
         }
     }
@@ -138,10 +109,7 @@ fn refused_11() {
     for disk in [64, 65, 128, 255] {
         assert_eq!(desk.call(&open_record(disk, 0, u32::MAX, 0)), refused(11));
         assert_eq!(desk.claim(read(READ_USED, 0).on(disk)), refused(11));
-        assert_eq!(
-            desk.claim(write(9, i32::MIN, u32::MAX).on(disk)),
-            refused(11)
-        );
+        assert_eq!(desk.claim(write(9, i32::MIN, u32::MAX).on(disk)), refused(11));
         assert_eq!(desk.call(&release_record(disk, 0, 1)), refused(11));
     }
     let mut desk = Low::of(vec![0; BOARD]);
@@ -157,10 +125,7 @@ fn refused_12<D: Desk>() {
     assert_eq!(desk.open(50, 1_000, 1_000), refused(12));
     assert_eq!(desk.open(49, 1_000, 1_000), refused(12));
     assert_eq!(desk.open(50, MOST_ERROR + 1, 1_000), refused(12));
-    assert_eq!(
-        desk.damaged(&[(NEXT_TICKET, 0)]).open(50, 1_000, 1_000),
-        refused(12)
-    );
+    assert_eq!(desk.damaged(&[(NEXT_TICKET, 0)]).open(50, 1_000, 1_000), refused(12));
 }
 
 /// 13: claim or release on a closed disk. Before 14 to 21: the part of a closed disk is not looked at.
@@ -171,10 +136,7 @@ fn refused_13<D: Desk>() {
         board[0] = 0b1111_0111;
         let mut desk = D::of(board);
         assert_eq!(desk.claim(read(READ_USED, 0)), refused(13));
-        assert_eq!(
-            desk.claim(write(REPORT_USED, i32::MIN, u32::MAX)),
-            refused(13)
-        );
+        assert_eq!(desk.claim(write(REPORT_USED, i32::MIN, u32::MAX)), refused(13));
         assert_eq!(desk.release(0, 1), refused(13));
         assert_eq!(desk.open(0, 1, 1), opened());
         assert_eq!(desk.claim(read(READ_USED, 0)), granted(1, 0, 0));
@@ -196,17 +158,11 @@ fn refused_14<D: Desk>() {
     let unsound = || desk.damaged(&[(NEXT_TICKET, 1_000_001)]);
     assert_eq!(unsound().claim(read(READ_USED, 0).at(50)), refused(14));
     assert_eq!(unsound().claim(read(READ_USED, 0).at(49)), refused(14));
-    assert_eq!(
-        unsound().claim(write(REPORT_USED, i32::MIN, 0).at(50)),
-        refused(14)
-    );
+    assert_eq!(unsound().claim(write(REPORT_USED, i32::MIN, 0).at(50)), refused(14));
     assert_eq!(unsound().release(50, 1), refused(14));
     assert_eq!(unsound().release(49, 1), refused(14));
     assert_eq!(unsound().release(50, 2), refused(14));
-    assert_eq!(
-        unsound().claim(read(READ_USED, 0).on(DISK + 1)),
-        refused(13)
-    );
+    assert_eq!(unsound().claim(read(READ_USED, 0).on(DISK + 1)), refused(13));
 }
 
 #[test]
@@ -224,18 +180,9 @@ fn refused_15<D: Desk>() {
     };
     assert_eq!(clocked().claim(read(READ_USED, 0).at(99)), refused(15));
     assert_eq!(clocked().claim(read(READ_USED, 0).at(0)), refused(15));
-    assert_eq!(
-        clocked().claim(read(READ_USED, 0).at(100)),
-        granted(1, 0, 0)
-    );
-    assert_eq!(
-        clocked().claim(write(REPORT_USED, 0, 1_001).at(99)),
-        refused(15)
-    );
-    assert_eq!(
-        clocked().claim(write(REPORT_USED, MOST_VALUE + 1, 0).at(99)),
-        refused(15)
-    );
+    assert_eq!(clocked().claim(read(READ_USED, 0).at(100)), granted(1, 0, 0));
+    assert_eq!(clocked().claim(write(REPORT_USED, 0, 1_001).at(99)), refused(15));
+    assert_eq!(clocked().claim(write(REPORT_USED, MOST_VALUE + 1, 0).at(99)), refused(15));
     assert_eq!(clocked().release(99, 1), refused(15));
     assert_eq!(clocked().release(100, 1), refused(21));
     let mut last = clocked().damaged(&[(NEXT_TICKET, 1_000_000)]);
@@ -253,10 +200,7 @@ fn refused_15<D: Desk>() {
     assert_eq!(desk.release(159, 2), refused(15));
     assert_eq!(desk.release(170, 2), released(2, &[]));
     assert_eq!(desk.claim(read(READ_USED, 0).at(169)), refused(15));
-    assert_eq!(
-        desk.claim(read(READ_USED, 0).at(u32::MAX)),
-        granted(3, 0, 0)
-    );
+    assert_eq!(desk.claim(read(READ_USED, 0).at(u32::MAX)), granted(3, 0, 0));
     assert_eq!(desk.claim(read(READ_USED, 0).at(u32::MAX - 1)), refused(15));
 }
 
@@ -273,10 +217,7 @@ fn refused_16() {
     for method in 7..=255 {
         let mut desk = Low::opened(0, 0);
         assert_eq!(desk.claim(read(method, 0)), refused(16));
-        assert_eq!(
-            desk.claim(write(method, i32::MIN, u32::MAX).measured(1)),
-            refused(16)
-        );
+        assert_eq!(desk.claim(write(method, i32::MIN, u32::MAX).measured(1)), refused(16));
         assert_eq!(desk.claim(read(method, 1).fresh()), refused(16));
         let mut last = desk.damaged(&[(NEXT_TICKET, 1_000_000)]);
         assert_eq!(last.claim(read(method, 0)), refused(16));
@@ -290,40 +231,21 @@ fn refused_16() {
 fn refused_17_values<D: Desk>() {
     for method in [REPORT_USED, ADD_PROMISED, SET_PROMISED] {
         for value in [MOST_VALUE, -MOST_VALUE] {
-            assert_eq!(
-                D::opened(1, 1).claim(write(method, value, 0)),
-                granted(1, 0, 0)
-            );
+            assert_eq!(D::opened(1, 1).claim(write(method, value, 0)), granted(1, 0, 0));
         }
-        for value in [
-            MOST_VALUE + 1,
-            -MOST_VALUE - 1,
-            i32::MAX,
-            i32::MIN,
-            i32::MIN + 1,
-        ] {
-            assert_eq!(
-                D::opened(1, 1).claim(write(method, value, 0)),
-                refused(17),
-                "{method} {value}"
-            );
+        for value in [MOST_VALUE + 1, -MOST_VALUE - 1, i32::MAX, i32::MIN, i32::MIN + 1] {
+            assert_eq!(D::opened(1, 1).claim(write(method, value, 0)), refused(17), "{method} {value}");
         }
     }
     for code in [0, 255] {
-        assert_eq!(
-            D::opened(1, 1).claim(write(SET_STATE, code, 0)),
-            granted(1, 0, 0)
-        );
+        assert_eq!(D::opened(1, 1).claim(write(SET_STATE, code, 0)), granted(1, 0, 0));
     }
 }
 
 #[test]
 fn refused_17_state() {
     for code in [-1, 256, MOST_VALUE, i32::MIN] {
-        assert_eq!(
-            Low::opened(1, 1).claim(write(SET_STATE, code, 0)),
-            refused(17)
-        );
+        assert_eq!(Low::opened(1, 1).claim(write(SET_STATE, code, 0)), refused(17));
     }
 }
 
@@ -331,60 +253,36 @@ fn refused_17_state() {
 fn refused_17_errors<D: Desk>() {
     for method in [REPORT_USED, ADD_PROMISED, SET_PROMISED] {
         let wide = || D::opened(MOST_ERROR, MOST_ERROR);
-        assert_eq!(
-            wide().claim(write(method, 0, MOST_ERROR)),
-            granted(1, 0, MOST_ERROR)
-        );
+        assert_eq!(wide().claim(write(method, 0, MOST_ERROR)), granted(1, 0, MOST_ERROR));
         for error in [MOST_ERROR + 1, u32::MAX] {
             assert_eq!(wide().claim(write(method, 0, error)), refused(17));
             assert_eq!(D::opened(1, 1).claim(write(method, 0, error)), refused(17));
             let mut last = D::opened(1, 1).damaged(&[(NEXT_TICKET, 1_000_000)]);
             assert_eq!(last.claim(write(method, 0, error)), refused(17));
         }
-        assert_eq!(
-            D::opened(1, 1).claim(write(method, 0, MOST_ERROR)),
-            refused(18)
-        );
+        assert_eq!(D::opened(1, 1).claim(write(method, 0, MOST_ERROR)), refused(18));
     }
 }
 
 #[test]
 fn refused_17_state_error() {
-    assert_eq!(
-        Low::opened(1, 1).claim(write(SET_STATE, 0, MOST_ERROR + 1)),
-        refused(17)
-    );
-    assert_eq!(
-        Low::opened(1, 1).claim(write(SET_STATE, 256, 1)),
-        refused(17)
-    );
-    assert_eq!(
-        Low::opened(1, 1).claim(write(SET_STATE, 0, MOST_ERROR)),
-        refused(18)
-    );
+    assert_eq!(Low::opened(1, 1).claim(write(SET_STATE, 0, MOST_ERROR + 1)), refused(17));
+    assert_eq!(Low::opened(1, 1).claim(write(SET_STATE, 256, 1)), refused(17));
+    assert_eq!(Low::opened(1, 1).claim(write(SET_STATE, 0, MOST_ERROR)), refused(18));
 }
 
 /// 17, readings: the stated limit 0 to 2,000,000,000, no second of measuring.
 fn refused_17_readings<D: Desk>() {
     for method in [READ_USED, READ_LOAD] {
-        assert_eq!(
-            D::opened(1, 1).claim(read(method, MOST_ERROR)),
-            granted(1, 0, 0)
-        );
+        assert_eq!(D::opened(1, 1).claim(read(method, MOST_ERROR)), granted(1, 0, 0));
         for limit in [MOST_ERROR + 1, u32::MAX] {
             assert_eq!(D::opened(1, 1).claim(read(method, limit)), refused(17));
         }
     }
     for method in [READ_USED, READ_LOAD, READ_STATE] {
-        assert_eq!(
-            D::opened(1, 1).claim(read(method, 0).at(5)),
-            granted(1, 0, 0)
-        );
+        assert_eq!(D::opened(1, 1).claim(read(method, 0).at(5)), granted(1, 0, 0));
         for second in [1, 5, u32::MAX] {
-            assert_eq!(
-                D::opened(1, 1).claim(read(method, 0).measured(second).at(5)),
-                refused(17)
-            );
+            assert_eq!(D::opened(1, 1).claim(read(method, 0).measured(second).at(5)), refused(17));
         }
         let mut last = D::opened(1, 1).damaged(&[(NEXT_TICKET, 1_000_000)]);
         assert_eq!(last.claim(read(method, 0).measured(1).at(5)), refused(17));
@@ -395,20 +293,11 @@ fn refused_17_readings<D: Desk>() {
 fn refused_17_reading_with_value() {
     for method in [READ_USED, READ_LOAD, READ_STATE] {
         for value in [1, -1, 256, i32::MIN] {
-            assert_eq!(
-                Low::opened(1, 1).claim(read(method, 0).value(value)),
-                refused(17)
-            );
+            assert_eq!(Low::opened(1, 1).claim(read(method, 0).value(value)), refused(17));
         }
     }
-    assert_eq!(
-        Low::opened(1, 1).claim(read(READ_STATE, MOST_ERROR)),
-        granted(1, 0, 0)
-    );
-    assert_eq!(
-        Low::opened(1, 1).claim(read(READ_STATE, MOST_ERROR + 1)),
-        refused(17)
-    );
+    assert_eq!(Low::opened(1, 1).claim(read(READ_STATE, MOST_ERROR)), granted(1, 0, 0));
+    assert_eq!(Low::opened(1, 1).claim(read(READ_STATE, MOST_ERROR + 1)), refused(17));
 }
 
 /// 17, writes: none with the fresh flag, none measured after now.
@@ -421,26 +310,15 @@ fn refused_17_writes<D: Desk>() {
         assert_eq!(D::opened(1, 1).claim(ask.measured(u32::MAX)), refused(17));
         assert_eq!(D::opened(1, 1).claim(ask.fresh()), refused(17));
     }
-    assert_eq!(
-        D::opened(1, 1).claim(write(REPORT_USED, 1, 2).fresh()),
-        refused(17)
-    );
-    assert_eq!(
-        D::opened(1, 1).claim(write(REPORT_USED, 1, 2).measured(1)),
-        refused(17)
-    );
+    assert_eq!(D::opened(1, 1).claim(write(REPORT_USED, 1, 2).fresh()), refused(17));
+    assert_eq!(D::opened(1, 1).claim(write(REPORT_USED, 1, 2).measured(1)), refused(17));
 }
 
 /// 17, open: both limits 0 to 2,000,000,000. The disk stays closed.
 fn refused_17_open<D: Desk>() {
     let mut desk = D::of(vec![0; BOARD]);
-    for (used, promised) in [
-        (MOST_ERROR + 1, 0),
-        (0, MOST_ERROR + 1),
-        (u32::MAX, 0),
-        (0, u32::MAX),
-        (1 << 31, 1 << 31),
-    ] {
+    for (used, promised) in [(MOST_ERROR + 1, 0), (0, MOST_ERROR + 1), (u32::MAX, 0), (0, u32::MAX), (1 << 31, 1 << 31)]
+    {
         assert_eq!(desk.open(0, used, promised), refused(17));
         assert_eq!(desk.claim(read(READ_USED, 0)), refused(13));
     }
@@ -450,14 +328,8 @@ fn refused_17_open<D: Desk>() {
 /// 18: a write whose own error exceeds its attribute's limit. Before 19.
 fn refused_18<D: Desk>() {
     for (method, limit) in [(REPORT_USED, 10), (ADD_PROMISED, 20), (SET_PROMISED, 20)] {
-        assert_eq!(
-            D::opened(10, 20).claim(write(method, 0, limit)),
-            granted(1, 0, limit)
-        );
-        assert_eq!(
-            D::opened(10, 20).claim(write(method, 0, limit + 1)),
-            refused(18)
-        );
+        assert_eq!(D::opened(10, 20).claim(write(method, 0, limit)), granted(1, 0, limit));
+        assert_eq!(D::opened(10, 20).claim(write(method, 0, limit + 1)), refused(18));
         let mut last = D::opened(10, 20).damaged(&[(NEXT_TICKET, 1_000_000)]);
         assert_eq!(last.claim(write(method, 0, limit + 1)), refused(18));
     }
@@ -469,10 +341,7 @@ fn refused_18<D: Desk>() {
 
 #[test]
 fn refused_18_state() {
-    assert_eq!(
-        Low::opened(9, 9).claim(write(SET_STATE, 1, 0)),
-        granted(1, 0, 0)
-    );
+    assert_eq!(Low::opened(9, 9).claim(write(SET_STATE, 1, 0)), granted(1, 0, 0));
     assert_eq!(Low::opened(9, 9).claim(write(SET_STATE, 1, 1)), refused(18));
     // before 20: eight wait, and a SetState would
     let mut desk: Low = eight_wait();

@@ -49,10 +49,7 @@ fn printed_run<D: Desk>() {
     for (record, items) in said.iter().enumerate() {
         for (k, (code, ticket, told, amount)) in items.iter().enumerate() {
             let plus = if k == 0 { "" } else { "+" };
-            printed += &format!(
-                "{plus}{} {DISK} {code} {ticket} {told} {amount}\n",
-                record + 1
-            );
+            printed += &format!("{plus}{} {DISK} {code} {ticket} {told} {amount}\n", record + 1);
         }
     }
     let expected = "\
@@ -91,14 +88,8 @@ fn k3<D: Desk>() {
 }
 
 fn k4<D: Desk>() {
-    assert_eq!(
-        D::opened(10, 1_000).claim(write(REPORT_USED, 0, 10)),
-        granted(1, 0, 10)
-    );
-    assert_eq!(
-        D::opened(10, 1_000).claim(write(REPORT_USED, 0, 11)),
-        refused(18)
-    );
+    assert_eq!(D::opened(10, 1_000).claim(write(REPORT_USED, 0, 10)), granted(1, 0, 10));
+    assert_eq!(D::opened(10, 1_000).claim(write(REPORT_USED, 0, 11)), refused(18));
 }
 
 /// AddPromised 300 active.
@@ -144,20 +135,14 @@ fn k8<D: Desk>() {
 /// Used stamped 100, by a report measured then; nothing active.
 fn stamped_100<D: Desk>() -> D {
     let mut desk = D::opened(1_000, 1_000);
-    assert_eq!(
-        desk.claim(write(REPORT_USED, 70, 0).measured(100).at(120)),
-        granted(1, 0, 0)
-    );
+    assert_eq!(desk.claim(write(REPORT_USED, 70, 0).measured(100).at(120)), granted(1, 0, 0));
     assert_eq!(desk.release(130, 1), released(1, &[]));
     desk
 }
 
 fn k9<D: Desk>() {
     let mut desk: D = stamped_100();
-    assert_eq!(
-        desk.claim(read(READ_USED, 0).fresh().at(399)),
-        granted(2, 70, 0)
-    );
+    assert_eq!(desk.claim(read(READ_USED, 0).fresh().at(399)), granted(2, 70, 0));
     let mut desk: D = stamped_100();
     assert_eq!(desk.claim(read(READ_USED, 0).fresh().at(400)), waits(2));
 }
@@ -165,10 +150,7 @@ fn k9<D: Desk>() {
 fn k10<D: Desk>() {
     let full = || {
         let mut desk = D::opened(1_000, 1_000);
-        assert_eq!(
-            desk.claim(write(SET_PROMISED, 999_999_999, 0)),
-            granted(1, 0, 0)
-        );
+        assert_eq!(desk.claim(write(SET_PROMISED, 999_999_999, 0)), granted(1, 0, 0));
         assert_eq!(desk.release(0, 1), released(1, &[]));
         desk
     };
@@ -181,10 +163,7 @@ fn k11<D: Desk>() {
     assert_eq!(desk.claim(write(REPORT_USED, 6, 5)), granted(1, 0, 5));
     assert_eq!(desk.release(0, 1), released(1, &[]));
     assert_eq!(desk.claim(read(READ_USED, 4)), waits(2));
-    assert_eq!(
-        desk.claim(write(REPORT_USED, 7, 0).priority(4)),
-        granted(3, 0, 0)
-    );
+    assert_eq!(desk.claim(write(REPORT_USED, 7, 0).priority(4)), granted(3, 0, 0));
     assert_eq!(desk.release(0, 3), released(3, &[(2, 7, 0)]));
 }
 
@@ -195,14 +174,8 @@ fn k12<D: Desk>() {
         assert_eq!(desk.claim(write(SET_PROMISED, 2, 0).priority(7)), waits(2));
         desk
     };
-    assert_eq!(
-        queued().claim(write(ADD_PROMISED, 1, 0).priority(7)),
-        waits(3)
-    );
-    assert_eq!(
-        queued().claim(write(ADD_PROMISED, 1, 0).priority(8)),
-        granted(3, 0, 0)
-    );
+    assert_eq!(queued().claim(write(ADD_PROMISED, 1, 0).priority(7)), waits(3));
+    assert_eq!(queued().claim(write(ADD_PROMISED, 1, 0).priority(8)), granted(3, 0, 0));
 }
 
 fn k13<D: Desk>() {
@@ -244,10 +217,7 @@ fn no_signed_sum<D: Desk>() {
     assert_eq!(desk.claim(read(READ_LOAD, 999)), granted(1, 0, 0));
     assert_eq!(desk.claim(write(ADD_PROMISED, 500, 0)), granted(2, 0, 0));
     assert_eq!(desk.claim(write(ADD_PROMISED, -500, 0)), waits(3));
-    assert_eq!(
-        desk.claim(read(READ_LOAD, 500).priority(6)),
-        granted(4, 0, 500)
-    );
+    assert_eq!(desk.claim(read(READ_LOAD, 500).priority(6)), granted(4, 0, 500));
 }
 
 /// The second report's gap is 10, from the present 60; from the told 0 it would be 70, and the reader could not bear it.
@@ -263,14 +233,8 @@ fn gap_from_present_value<D: Desk>() {
 /// A reading that waits for fresh figures does not bar the report it waits for.
 fn stale_reading_bars_nobody<D: Desk>() {
     let mut desk = D::opened(1_000, 1_000);
-    assert_eq!(
-        desk.claim(read(READ_USED, 0).fresh().priority(9).at(300)),
-        waits(1)
-    );
-    assert_eq!(
-        desk.claim(write(REPORT_USED, 8, 0).at(300)),
-        granted(2, 0, 0)
-    );
+    assert_eq!(desk.claim(read(READ_USED, 0).fresh().priority(9).at(300)), waits(1));
+    assert_eq!(desk.claim(write(REPORT_USED, 8, 0).at(300)), granted(2, 0, 0));
     assert_eq!(desk.release(301, 2), released(2, &[(1, 8, 0)]));
 }
 
@@ -278,10 +242,7 @@ fn stale_reading_bars_nobody<D: Desk>() {
 
 fn adds_count_in_full<D: Desk>() {
     let mut desk = D::opened(1_000, 1_000);
-    assert_eq!(
-        desk.claim(write(ADD_PROMISED, -999_999_998, 0)),
-        granted(1, 0, 0)
-    );
+    assert_eq!(desk.claim(write(ADD_PROMISED, -999_999_998, 0)), granted(1, 0, 0));
     assert_eq!(desk.claim(write(ADD_PROMISED, 1, 0)), granted(2, 0, 0));
     assert_eq!(desk.claim(write(ADD_PROMISED, 2, 0)), waits(3));
     assert_eq!(desk.claim(write(ADD_PROMISED, -1, 0)), granted(4, 0, 0));

@@ -69,21 +69,12 @@ fn minus(n: u32) -> u32 {
 fn busy<D: Desk>() -> D {
     let mut desk = D::of(vec![0; BOARD]);
     assert_eq!(desk.open(100, 1_000, 500), opened());
-    assert_eq!(
-        desk.claim(write(REPORT_USED, 40, 3).measured(90).at(110)),
-        granted(1, 0, 3)
-    );
-    assert_eq!(
-        desk.claim(write(ADD_PROMISED, 200, 1).at(110)),
-        granted(2, 0, 1)
-    );
+    assert_eq!(desk.claim(write(REPORT_USED, 40, 3).measured(90).at(110)), granted(1, 0, 3));
+    assert_eq!(desk.claim(write(ADD_PROMISED, 200, 1).at(110)), granted(2, 0, 1));
     assert_eq!(desk.claim(read(READ_USED, 500).at(110)), granted(3, 0, 43));
     assert_eq!(desk.claim(write(SET_STATE, 7, 0).at(110)), granted(4, 0, 0));
     assert_eq!(desk.claim(read(READ_STATE, 0).at(110)), waits(5));
-    assert_eq!(
-        desk.claim(write(SET_PROMISED, 10, 0).priority(7).at(110)),
-        waits(6)
-    );
+    assert_eq!(desk.claim(write(SET_PROMISED, 10, 0).priority(7).at(110)), waits(6));
     assert_eq!(desk.claim(read(READ_STATE, 0).at(110)), waits(7));
     desk
 }
@@ -91,10 +82,7 @@ fn busy<D: Desk>() -> D {
 /// Nobody has ticket 0: a release of it is refused 21 on a sound part and 14 on another.
 fn is_sound<D: Desk>(words: &[(usize, u32)]) -> bool {
     let said = busy::<D>().damaged(words).release(u32::MAX, 0);
-    assert!(
-        said == refused(14) || said == refused(21),
-        "{words:?}: {said:?}"
-    );
+    assert!(said == refused(14) || said == refused(21), "{words:?}: {said:?}");
     said == refused(21)
 }
 
@@ -116,17 +104,9 @@ fn edges<D: Desk>(at: usize, may: &[u32], not: &[u32]) {
 fn decodes<D: Desk>() {
     sound::<D>(&[]);
     let spare = [56, 60].into_iter();
-    let behind = [
-        REPORT,
-        ADD,
-        READING,
-        SETS_STATE,
-        SETS_PROMISED,
-        READS_STATE,
-        READS_STATE_TOO,
-    ]
-    .into_iter()
-    .flat_map(|slot| [slot + 36, slot + 40]);
+    let behind = [REPORT, ADD, READING, SETS_STATE, SETS_PROMISED, READS_STATE, READS_STATE_TOO]
+        .into_iter()
+        .flat_map(|slot| [slot + 36, slot + 40]);
     let past = (active(4)..waiting(0)).chain(waiting(3)..PART).step_by(4);
     for at in spare.chain(behind).chain(past) {
         for byte in 0..4 {
@@ -140,11 +120,7 @@ fn decodes<D: Desk>() {
 
 /// Ranges of the figures, amounts ≤ limits, stamps ≤ clock.
 fn figures<D: Desk>() {
-    edges::<D>(
-        USED,
-        &[0, BILLION, minus(BILLION)],
-        &[BILLION + 1, minus(BILLION + 1), 1 << 31],
-    );
+    edges::<D>(USED, &[0, BILLION, minus(BILLION)], &[BILLION + 1, minus(BILLION + 1), 1 << 31]);
     edges::<D>(STATE, &[0, 255], &[256, minus(1), 1 << 31]);
     for (figure, limit) in [(USED, 1_000), (PROMISED, 500)] {
         edges::<D>(figure + AMOUNT, &[0, limit], &[limit + 1, u32::MAX]);
@@ -167,20 +143,12 @@ fn clock<D: Desk>() {
 
 /// Next ticket 1 to 1,000,000; tickets distinct, at least 1 and below next.
 fn tickets<D: Desk>() {
-    edges::<D>(
-        NEXT_TICKET,
-        &[8, 1_000_000],
-        &[0, 1, 7, 1_000_001, u32::MAX],
-    );
+    edges::<D>(NEXT_TICKET, &[8, 1_000_000], &[0, 1, 7, 1_000_001, u32::MAX]);
     edges::<D>(REPORT + TICKET, &[1], &[0, 2, 3, 4, 5, 6, 7, 8, u32::MAX]);
     edges::<D>(SETS_STATE + TICKET, &[4], &[0, 1, 2, 3, 5, 6, 7, 8]);
     edges::<D>(SETS_PROMISED + TICKET, &[6], &[0, 1, 2, 3, 4, 5, 7, 8]);
     edges::<D>(READS_STATE_TOO + TICKET, &[7], &[0, 1, 2, 3, 4, 5, 6, 8]);
-    sound::<D>(&[
-        (NEXT_TICKET, 100),
-        (REPORT + TICKET, 99),
-        (SETS_PROMISED + TICKET, 98),
-    ]);
+    sound::<D>(&[(NEXT_TICKET, 100), (REPORT + TICKET, 99), (SETS_PROMISED + TICKET, 98)]);
     unsound::<D>(&[(NEXT_TICKET, 99), (REPORT + TICKET, 99)]);
     // no claim at all: next ticket 1
     let mut idle = D::opened(0, 0);
@@ -194,15 +162,7 @@ fn tickets<D: Desk>() {
 
 /// Every claim passes 16 to 18, and its priority and flag are those of a record.
 fn claims_16_to_18<D: Desk>() {
-    for slot in [
-        REPORT,
-        ADD,
-        READING,
-        SETS_STATE,
-        SETS_PROMISED,
-        READS_STATE,
-        READS_STATE_TOO,
-    ] {
+    for slot in [REPORT, ADD, READING, SETS_STATE, SETS_PROMISED, READS_STATE, READS_STATE_TOO] {
         unsound::<D>(&[(slot + METHOD, 7)]);
         unsound::<D>(&[(slot + METHOD, 255)]);
         unsound::<D>(&[(slot + METHOD, u32::MAX)]);
@@ -225,11 +185,7 @@ fn claims_16_to_18<D: Desk>() {
         sound::<D>(&[(slot + ERROR, 2 * BILLION)]);
     }
     for slot in [REPORT, SETS_PROMISED] {
-        edges::<D>(
-            slot + VALUE,
-            &[BILLION, minus(BILLION)],
-            &[BILLION + 1, minus(BILLION + 1), 1 << 31],
-        );
+        edges::<D>(slot + VALUE, &[BILLION, minus(BILLION)], &[BILLION + 1, minus(BILLION + 1), 1 << 31]);
     }
     edges::<D>(SETS_STATE + VALUE, &[0, 255], &[256, minus(1)]);
     edges::<D>(REPORT + ERROR, &[0, 1_000], &[1_001]);
@@ -244,22 +200,11 @@ fn claims_16_to_18<D: Desk>() {
 /// An active reading's told lies within ±2,000,000,000 and its amount ≤ its limit; others have neither.
 fn told_and_amount<D: Desk>() {
     let most = 2 * BILLION;
-    edges::<D>(
-        READING + SLOT_TOLD,
-        &[0, 300, most, minus(most)],
-        &[most + 1, minus(most + 1), 1 << 31],
-    );
+    edges::<D>(READING + SLOT_TOLD, &[0, 300, most, minus(most)], &[most + 1, minus(most + 1), 1 << 31]);
     edges::<D>(READING + SLOT_AMOUNT, &[0, 43, 500], &[501, u32::MAX]);
     sound::<D>(&[(READING + SLOT_AMOUNT, 43), (READING + ERROR, 43)]);
     unsound::<D>(&[(READING + SLOT_AMOUNT, 43), (READING + ERROR, 42)]);
-    for slot in [
-        REPORT,
-        ADD,
-        SETS_STATE,
-        SETS_PROMISED,
-        READS_STATE,
-        READS_STATE_TOO,
-    ] {
+    for slot in [REPORT, ADD, SETS_STATE, SETS_PROMISED, READS_STATE, READS_STATE_TOO] {
         edges::<D>(slot + SLOT_TOLD, &[0], &[1, minus(1)]);
         edges::<D>(slot + SLOT_AMOUNT, &[0], &[1]);
     }
@@ -268,16 +213,8 @@ fn told_and_amount<D: Desk>() {
 /// |promised| + the sum of |d| of active adds ≤ 1,000,000,000.
 fn promised_sum<D: Desk>() {
     let most = BILLION - 200;
-    edges::<D>(
-        PROMISED,
-        &[most, minus(most)],
-        &[most + 1, minus(most + 1), BILLION, minus(BILLION), 1 << 31],
-    );
-    edges::<D>(
-        ADD + VALUE,
-        &[BILLION, minus(BILLION)],
-        &[BILLION + 1, minus(BILLION + 1), 1 << 31],
-    );
+    edges::<D>(PROMISED, &[most, minus(most)], &[most + 1, minus(most + 1), BILLION, minus(BILLION), 1 << 31]);
+    edges::<D>(ADD + VALUE, &[BILLION, minus(BILLION)], &[BILLION + 1, minus(BILLION + 1), 1 << 31]);
     unsound::<D>(&[(PROMISED, 1), (ADD + VALUE, BILLION)]);
     unsound::<D>(&[(PROMISED, 1), (ADD + VALUE, minus(BILLION))]);
     // the report as a second add
@@ -311,20 +248,12 @@ fn waiting_order<D: Desk>() {
     edges::<D>(READS_STATE + PRIORITY, &[5, 6], &[7, 8, 4, 0, 255]);
     edges::<D>(READS_STATE_TOO + PRIORITY, &[5, 4, 0], &[6, 7, 255]);
     unsound::<D>(&[(READS_STATE + TICKET, 7), (READS_STATE_TOO + TICKET, 5)]);
-    sound::<D>(&[
-        (READS_STATE + TICKET, 7),
-        (READS_STATE_TOO + TICKET, 5),
-        (READS_STATE + PRIORITY, 6),
-    ]);
+    sound::<D>(&[(READS_STATE + TICKET, 7), (READS_STATE_TOO + TICKET, 5), (READS_STATE + PRIORITY, 6)]);
 }
 
 /// No clause but 01's: sets too far apart, an old stamp under a fresh reading, a reading's amount below the carried error.
 fn nothing_more<D: Desk>() {
-    sound::<D>(&[
-        (ADD + METHOD, u32::from(REPORT_USED)),
-        (ADD + VALUE, BILLION),
-        (REPORT + VALUE, minus(BILLION)),
-    ]);
+    sound::<D>(&[(ADD + METHOD, u32::from(REPORT_USED)), (ADD + VALUE, BILLION), (REPORT + VALUE, minus(BILLION))]);
     sound::<D>(&[(CLOCK, u32::MAX), (READING + FLAG, 1)]);
     sound::<D>(&[(USED + AMOUNT, 1_000), (READING + SLOT_AMOUNT, 0)]);
     sound::<D>(&[

@@ -1,9 +1,7 @@
 //! The same requests through the typed crate and, as bytes written here by hand, through the low-level call.
 #![allow(dead_code)]
 
-use stopblocker::{
-    step, Answer, Board, Claim, Claimed, Disk, Granted, Method, Open, Refusal, Release, Request,
-};
+use stopblocker::{step, Answer, Board, Claim, Claimed, Disk, Granted, Method, Open, Refusal, Release, Request};
 
 pub const BOARD: usize = 49_216;
 pub const PART: usize = 768;
@@ -66,24 +64,12 @@ pub struct Ask {
 
 /// A write: its value and own error.
 pub fn write(method: u8, value: i32, error: u32) -> Ask {
-    Ask {
-        disk: DISK,
-        method,
-        priority: 5,
-        fresh: 0,
-        now: 0,
-        measured: None,
-        value,
-        error,
-    }
+    Ask { disk: DISK, method, priority: 5, fresh: 0, now: 0, measured: None, value, error }
 }
 
 /// A reading: its stated limit.
 pub fn read(method: u8, limit: u32) -> Ask {
-    Ask {
-        measured: Some(0),
-        ..write(method, 0, limit)
-    }
+    Ask { measured: Some(0), ..write(method, 0, limit) }
 }
 
 impl Ask {
@@ -100,10 +86,7 @@ impl Ask {
     }
 
     pub fn measured(self, second: u32) -> Ask {
-        Ask {
-            measured: Some(second),
-            ..self
-        }
+        Ask { measured: Some(second), ..self }
     }
 
     pub fn value(self, value: i32) -> Ask {
@@ -197,16 +180,11 @@ impl Low {
         let mut answer = [0xa5; ANSWER];
         let code = step(&mut self.board, record, &mut answer);
         let word = |at: usize| u32::from_le_bytes(answer[at..at + 4].try_into().unwrap());
-        let all: Said = (0..9)
-            .map(|k| 16 * k)
-            .map(|at| (word(at), word(at + 4), word(at + 8) as i32, word(at + 12)))
-            .collect();
+        let all: Said =
+            (0..9).map(|k| 16 * k).map(|at| (word(at), word(at + 4), word(at + 8) as i32, word(at + 12))).collect();
         let used = 1 + all[1..].iter().take_while(|item| item.1 != 0).count();
         assert_eq!(code, all[0].0, "the call returns the first item's code");
-        assert!(
-            all[used..].iter().all(|&item| item == (0, 0, 0, 0)),
-            "unused items are zero: {all:?}"
-        );
+        assert!(all[used..].iter().all(|&item| item == (0, 0, 0, 0)), "unused items are zero: {all:?}");
         if code > 3 {
             assert_eq!(all[0], (code, 0, 0, 0), "a refusal puts only its number");
             assert_eq!(used, 1, "a refusal grants nothing");
@@ -272,11 +250,7 @@ impl Typed {
     }
 
     /// A refusal through the typed crate leaves the board too, and `call` says the same as the typed function.
-    fn held(
-        &mut self,
-        request: Request,
-        typed: impl Fn(&mut Board) -> Result<Said, Refusal>,
-    ) -> Said {
+    fn held(&mut self, request: Request, typed: impl Fn(&mut Board) -> Result<Said, Refusal>) -> Said {
         let before = self.board.clone();
         let mut beside = self.board.clone();
         let said = typed(&mut self.board);
@@ -287,25 +261,17 @@ impl Typed {
             Answer::Opened(_) => opened(),
             Answer::Granted(g) => vec![item(g)],
             Answer::Waits(w) => waits(w.ticket),
-            Answer::Released(r) => [(2, r.ticket, 0, 0)]
-                .into_iter()
-                .chain(r.grants.into_iter().map(item))
-                .collect(),
+            Answer::Released(r) => [(2, r.ticket, 0, 0)].into_iter().chain(r.grants.into_iter().map(item)).collect(),
         });
         assert_eq!(any, said, "call says what the typed function says");
-        assert_eq!(
-            beside, self.board,
-            "call leaves what the typed function leaves"
-        );
+        assert_eq!(beside, self.board, "call leaves what the typed function leaves");
         said.unwrap_or_else(|refusal| refused(refusal.number()))
     }
 }
 
 impl Desk for Typed {
     fn of(board: Vec<u8>) -> Typed {
-        Typed {
-            board: Board::from_bytes(&board).unwrap(),
-        }
+        Typed { board: Board::from_bytes(&board).unwrap() }
     }
 
     fn bytes(&self) -> &[u8] {
