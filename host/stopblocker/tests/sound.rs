@@ -14,6 +14,7 @@ both!(
     never,
     waiting_order,
     nothing_more,
+    every_slot_taken,
 );
 
 // Places in the part.
@@ -265,4 +266,22 @@ fn nothing_more<D: Desk>() {
         (SETS_STATE + VALUE, 0),
         (SETS_STATE + MEASURED, 0),
     ]);
+}
+
+/// Eight active, eight waiting: sound, and what waits is not held to what is active.
+fn every_slot_taken<D: Desk>() {
+    let mut desk = D::opened(0, 0);
+    assert_eq!(desk.claim(write(SET_STATE, 9, 0)), granted(1, 0, 0));
+    for ticket in 2..=8 {
+        assert_eq!(desk.claim(read(READ_USED, 0)), granted(ticket, 0, 0));
+    }
+    for ticket in 9..=16 {
+        assert_eq!(desk.claim(read(READ_STATE, 0)), waits(ticket));
+    }
+    assert_eq!(desk.release(0, 0), refused(21));
+    assert_eq!(desk.damaged(&[(ACTIVE_COUNT, 9)]).release(0, 0), refused(14));
+    assert_eq!(desk.damaged(&[(WAITING_COUNT, 9)]).release(0, 0), refused(14));
+    assert_eq!(desk.release(0, 8), released(8, &[]));
+    // six are left: two places
+    assert_eq!(desk.release(0, 1), released(1, &[(9, 9, 0), (10, 9, 0)]));
 }
