@@ -1,0 +1,133 @@
+//! What an accepted call answers.
+
+use crate::layout::{signed_at, word_at, ANSWER_BYTES, ITEMS, ITEM_BYTES};
+use crate::Refusal;
+
+/// A claim is granted, in its own call or in the pass of a release.
+#[derive(Clone, Copy, PartialEq, Eq, Hash, Debug)]
+pub struct Granted {
+    /// The ticket to release it with.
+    pub ticket: u32,
+    /// The sum of the values that a reading reads; 0 of a write.
+    pub told: i32,
+    /// A reading's own amount of error; of a write, its attribute's amount after the grant.
+    pub amount: u32,
+}
+
+/// A claim waits; it is tried again at each release on its disk.
+#[derive(Clone, Copy, PartialEq, Eq, Hash, Debug)]
+pub struct Waits {
+    /// The ticket that a later pass may grant, and to withdraw it with.
+    pub ticket: u32,
+}
+
+/// A claim is released.
+#[derive(Clone, PartialEq, Eq, Hash, Debug)]
+pub struct Released {
+    /// Its ticket.
+    pub ticket: u32,
+    /// Every grant of the pass, in order.
+    pub grants: Vec<Granted>,
+}
+
+/// A disk is opened.
+#[derive(Clone, Copy, PartialEq, Eq, Hash, Debug)]
+pub struct Opened;
+
+/// What a claim comes to.
+#[derive(Clone, Copy, PartialEq, Eq, Hash, Debug)]
+pub enum Claimed {
+    /// It is granted.
+    Granted(Granted),
+    /// It waits.
+    Waits(Waits),
+}
+
+impl Claimed {
+    /// The ticket that it took.
+    pub const fn ticket(&self) -> u32 {
+        match self {
+            Claimed::Granted(granted) => granted.ticket,
+            Claimed::Waits(waits) => waits.ticket,
+        }
+    }
+
+    /// Its grant, if it is granted.
+    pub const fn granted(self) -> Option<Granted> {
+        match self {
+            Claimed::Granted(granted) => Some(granted),
+            Claimed::Waits(_) => None,
+        }
+    }
+
+    /// Its wait, if it waits.
+    pub const fn waits(self) -> Option<Waits> {
+        match self {
+            Claimed::Granted(_) => None,
+            Claimed::Waits(waits) => Some(waits),
+        }
+    }
+}
+
+/// What any request comes to.
+#[derive(Clone, PartialEq, Eq, Hash, Debug)]
+pub enum Answer {
+    /// Code 0.
+    Granted(Granted),
+    /// Code 1.
+    Waits(Waits),
+    /// Code 2.
+    Released(Released),
+    /// Code 3.
+    Opened(Opened),
+}
+
+/// An item of the answer buffer, as its four words.
+#[derive(Clone, Copy, PartialEq, Eq, Hash, Debug, Default)]
+pub struct Item {
+    /// 0 granted, 1 waits, 2 released, 3 opened, or a refusal's number.
+    pub code: u32,
+    /// Ticket.
+    pub ticket: u32,
+    /// Told.
+    pub told: i32,
+    /// Amount.
+    pub amount: u32,
+}
+
+impl Item {
+    /// The nine items of an answer buffer: the call's own, then the grants of its pass; unused ones are zero.
+    pub fn all(answer: &[u8; ANSWER_BYTES]) -> [Item; ITEMS] {
+        let mut items = [Item::default(); ITEMS];
+        for (item, bytes) in items.iter_mut().zip(answer.chunks_exact(ITEM_BYTES)) {
+            *item = Item {
+                code: word_at(bytes, 0),
+                ticket: word_at(bytes, 4),
+                told: signed_at(bytes, 8),
+                amount: word_at(bytes, 12),
+            };
+        }
+        items
+    }
+
+    fn granted(self) -> Granted {
+        Granted { ticket: self.ticket, told: self.told, amount: self.amount }
+    }
+}
+
+impl Answer {
+    /// The answer that a call has left in the buffer.
+    pub(crate) fn of(answer: &[u8; ANSWER_BYTES]) -> Result<Answer, Refusal> {
+        let [own, pass @ ..] = Item::all(answer);
+        Ok(match own.code {
+            0 => Answer::Granted(own.granted()),
+            1 => Answer::Waits(Waits { ticket: own.ticket }),
+            2 => Answer::Released(Released {
+                ticket: own.ticket,
+                grants: pass.iter().take_while(|item| item.ticket != 0).map(|item| item.granted()).collect(),
+            }),
+            3 => Answer::Opened(Opened),
+            number => return Err(Refusal::of(number).expect("every call ends with a code 0 to 3 or a refusal")),
+        })
+    }
+}

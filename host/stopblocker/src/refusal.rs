@@ -1,0 +1,101 @@
+//! The refusals, with 01's numbers and sentences.
+
+use std::error::Error;
+use std::fmt;
+
+/// Why a call was refused. Nothing on the board has changed.
+///
+/// ```
+/// use stopblocker::Refusal;
+///
+/// assert_eq!(Refusal::Clock.number(), 15);
+/// assert_eq!(Refusal::of(15), Some(Refusal::Clock));
+/// assert_eq!(Refusal::Clock.to_string(), "now below the disk's clock");
+/// ```
+#[derive(Clone, Copy, PartialEq, Eq, PartialOrd, Ord, Hash, Debug)]
+#[repr(u32)]
+pub enum Refusal {
+    /// 9: board or answer buffer of another length; neither is touched.
+    Length = 9,
+    /// 10: record not 24 bytes, wrong mark or kind, flag over 1, an unused byte or byte 7 not zero.
+    Record = 10,
+    /// 11: disk above 63.
+    Disk = 11,
+    /// 12: open of an open disk.
+    Open = 12,
+    /// 13: claim or release on a closed disk.
+    Closed = 13,
+    /// 14: the disk's part isn't sound (not for open).
+    Unsound = 14,
+    /// 15: now below the disk's clock (not for open).
+    Clock = 15,
+    /// 16: method above 6 (claim).
+    Method = 16,
+    /// 17: a field out of range: values, errors, limits; a reading with value or second of measuring not 0; a write
+    /// with the fresh flag, or measured after now.
+    Field = 17,
+    /// 18: a write whose own error exceeds its attribute's limit.
+    OwnError = 18,
+    /// 19: a claim with no ticket left.
+    NoTicket = 19,
+    /// 20: a claim that would wait while 8 wait.
+    Full = 20,
+    /// 21: release of a ticket neither active nor waiting.
+    Ticket = 21,
+}
+
+impl Refusal {
+    /// All of them, in the order they apply.
+    pub const ALL: [Refusal; 13] = [
+        Refusal::Length,
+        Refusal::Record,
+        Refusal::Disk,
+        Refusal::Open,
+        Refusal::Closed,
+        Refusal::Unsound,
+        Refusal::Clock,
+        Refusal::Method,
+        Refusal::Field,
+        Refusal::OwnError,
+        Refusal::NoTicket,
+        Refusal::Full,
+        Refusal::Ticket,
+    ];
+
+    /// 01's number, 9 to 21.
+    pub const fn number(self) -> u32 {
+        self as u32
+    }
+
+    /// The refusal of a number, if it is one.
+    pub fn of(number: u32) -> Option<Refusal> {
+        Refusal::ALL.into_iter().find(|r| r.number() == number)
+    }
+}
+
+impl fmt::Display for Refusal {
+    fn fmt(&self, f: &mut fmt::Formatter<'_>) -> fmt::Result {
+        f.write_str(match self {
+            Refusal::Length => "board or answer buffer of another length; neither is touched",
+            Refusal::Record => {
+                "record not 24 bytes, wrong mark or kind, flag over 1, an unused byte or byte 7 not zero"
+            }
+            Refusal::Disk => "disk above 63",
+            Refusal::Open => "open of an open disk",
+            Refusal::Closed => "claim or release on a closed disk",
+            Refusal::Unsound => "the disk's part isn't sound",
+            Refusal::Clock => "now below the disk's clock",
+            Refusal::Method => "method above 6",
+            Refusal::Field => {
+                "a field out of range: values, errors, limits; a reading with value or second of measuring not 0; \
+                 a write with the fresh flag, or measured after now"
+            }
+            Refusal::OwnError => "a write whose own error exceeds its attribute's limit",
+            Refusal::NoTicket => "a claim with no ticket left",
+            Refusal::Full => "a claim that would wait while 8 wait",
+            Refusal::Ticket => "release of a ticket neither active nor waiting",
+        })
+    }
+}
+
+impl Error for Refusal {}

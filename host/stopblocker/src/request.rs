@@ -1,0 +1,120 @@
+//! Open, release and any request, and their records.
+
+use crate::layout::{put_word, record, MARK, RECORD_BYTES};
+use crate::{Claim, Disk};
+
+/// A record with its mark, kind, disk and second, and zeros behind.
+pub(crate) fn begun(kind: u8, disk: Disk, now: u32) -> [u8; RECORD_BYTES] {
+    let mut bytes = [0; RECORD_BYTES];
+    bytes[..2].copy_from_slice(&MARK);
+    bytes[record::KIND] = kind;
+    bytes[record::DISK] = disk.number();
+    put_word(&mut bytes, record::NOW, now);
+    bytes
+}
+
+/// Opens a disk: values and amounts 0, stamps and clock = now, next ticket 1, no claims.
+#[derive(Clone, Copy, PartialEq, Eq, Hash, Debug)]
+pub struct Open {
+    disk: Disk,
+    now: u32,
+    used_limit: u32,
+    promised_limit: u32,
+}
+
+impl Open {
+    /// An open at second `now`, with the limits of the errors of used and promised, 0 to 2,000,000,000 each.
+    pub const fn new(disk: Disk, now: u32, used_limit: u32, promised_limit: u32) -> Open {
+        Open { disk, now, used_limit, promised_limit }
+    }
+
+    /// Its disk.
+    pub const fn disk(&self) -> Disk {
+        self.disk
+    }
+
+    /// Its record.
+    pub fn record(&self) -> [u8; RECORD_BYTES] {
+        let mut bytes = begun(1, self.disk, self.now);
+        put_word(&mut bytes, record::USED_LIMIT, self.used_limit);
+        put_word(&mut bytes, record::PROMISED_LIMIT, self.promised_limit);
+        bytes
+    }
+}
+
+/// Releases a claim: an active write shows in the figures, a reading or a waiting claim is removed. Then one pass over
+/// the waiting claims.
+#[derive(Clone, Copy, PartialEq, Eq, Hash, Debug)]
+pub struct Release {
+    disk: Disk,
+    now: u32,
+    ticket: u32,
+}
+
+impl Release {
+    /// A release of a ticket at second `now`.
+    pub const fn new(disk: Disk, now: u32, ticket: u32) -> Release {
+        Release { disk, now, ticket }
+    }
+
+    /// Its disk.
+    pub const fn disk(&self) -> Disk {
+        self.disk
+    }
+
+    /// Its record.
+    pub fn record(&self) -> [u8; RECORD_BYTES] {
+        let mut bytes = begun(3, self.disk, self.now);
+        put_word(&mut bytes, record::TICKET, self.ticket);
+        bytes
+    }
+}
+
+/// Any of the three, for programs that pass requests on.
+#[derive(Clone, Copy, PartialEq, Eq, Hash, Debug)]
+pub enum Request {
+    /// Opens a disk.
+    Open(Open),
+    /// Claims a method of a disk.
+    Claim(Claim),
+    /// Releases a claim.
+    Release(Release),
+}
+
+impl Request {
+    /// Its disk.
+    pub const fn disk(&self) -> Disk {
+        match self {
+            Request::Open(open) => open.disk(),
+            Request::Claim(claim) => claim.disk(),
+            Request::Release(release) => release.disk(),
+        }
+    }
+
+    /// Its record.
+    pub fn record(&self) -> [u8; RECORD_BYTES] {
+        match self {
+            Request::Open(open) => open.record(),
+            Request::Claim(claim) => claim.record(),
+            Request::Release(release) => release.record(),
+        }
+    }
+}
+
+impl From<Open> for Request {
+    fn from(open: Open) -> Request {
+        Request::Open(open)
+    }
+}
+
+impl From<Claim> for Request {
+    fn from(claim: Claim) -> Request {
+        Request::Claim(claim)
+    }
+}
+
+impl From<Release> for Request {
+    fn from(release: Release) -> Request {
+        Request::Release(release)
+    }
+}
