@@ -1,13 +1,12 @@
 -- Laws of the methods: the masks by method, and what a claim reads, is told, carries and writes by the masks of its kind.
 use Prim.Native.Nat.{ℕ, zero, suc, _≤_}
 use mathlib.Core.Bool.{cond}
-use mathlib.Core.List.{[], _∷_}
 use mathlib.Core.Path.{_≡_, refl}
 use native.Mathlib.Omega.{arith}
-use borrow.Author.Tests.{ne-eqb}
-use lib.Dec.{eqb}
+use borrow.Author.Tests.{ne-eqb, le-leb}
+use lib.Dec.{leb, eqb}
 use lib.IntN.{ℤ}
-use lib.ListN.{getD, List·getD-map, List·getD-eq-default}
+use lib.ListN.{List·getD-eq-default}
 use Rattle.num.specs.Bits.{hasBit}
 use Rattle.num.specs.Metric.{size, dist}
 use Rattle.law.specs.Types.{a0, a1, a2, Kind, sets, adds, reads, Figures}
@@ -36,14 +35,29 @@ method-cases P p0 p1 p2 p3 p4 p5 p6 more (suc (suc (suc (suc (suc (suc zero)))))
 method-cases P p0 p1 p2 p3 p4 p5 p6 more (suc (suc (suc (suc (suc (suc (suc m))))))) =
     more (suc (suc (suc (suc (suc (suc (suc m))))))) (omega arith)
 
--- The masks of all methods, in a row.
-pub read-row : (m : ℕ) → getD (0 ∷ 0 ∷ 0 ∷ 0 ∷ 1 ∷ 3 ∷ 4 ∷ []) m 0 ≡ readMask m
+-- The readings alone read, and the writes alone write.
+pub read-none : (m : ℕ) → (m ≡ 4 → ⊥) → (m ≡ 5 → ⊥) → (m ≡ 6 → ⊥) → 0 ≡ readMask m
 unfolding readMask diskTable
-read-row m = List·getD-map readsBy (diskTable .kinds) m (reads 0)
+read-none =
+    method-cases (λ m. (m ≡ 4 → ⊥) → (m ≡ 5 → ⊥) → (m ≡ 6 → ⊥) → 0 ≡ readMask m)
+    (λ x y z. refl) (λ x y z. refl) (λ x y z. refl) (λ x y z. refl)
+    (λ x y z. absurd (x refl)) (λ x y z. absurd (y refl)) (λ x y z. absurd (z refl))
+    (λ m h x y z. rw (method-past m h))
 
-pub write-row : (m : ℕ) → getD (1 ∷ 2 ∷ 2 ∷ 4 ∷ 0 ∷ 0 ∷ 0 ∷ []) m 0 ≡ writeMask m
+pub write-none : (m : ℕ) → (m ≡ 0 → ⊥) → (m ≡ 1 → ⊥) → (m ≡ 2 → ⊥) → (m ≡ 3 → ⊥) → 0 ≡ writeMask m
 unfolding writeMask diskTable
-write-row m = List·getD-map writesBy (diskTable .kinds) m (reads 0)
+write-none =
+    method-cases (λ m. (m ≡ 0 → ⊥) → (m ≡ 1 → ⊥) → (m ≡ 2 → ⊥) → (m ≡ 3 → ⊥) → 0 ≡ writeMask m)
+    (λ w x y z. absurd (w refl)) (λ w x y z. absurd (x refl)) (λ w x y z. absurd (y refl)) (λ w x y z. absurd (z refl))
+    (λ w x y z. refl) (λ w x y z. refl) (λ w x y z. refl)
+    (λ m h w x y z. rw (method-past m h))
+
+-- The methods from 4 on are the readings.
+pub reading-from : (m : ℕ) → leb 4 m ≡ isReading (kindAt diskTable m)
+unfolding diskTable
+reading-from =
+    method-cases (λ m. leb 4 m ≡ isReading (kindAt diskTable m)) refl refl refl refl refl refl refl
+    (λ m h. rw (method-past m h) (le-leb 4 m (omega arith)))
 
 -- Method 1 alone adds.
 pub add-row : (m : ℕ) → eqb m 1 ≡ isAdd (kindAt diskTable m)
@@ -53,20 +67,6 @@ add-row =
     (λ m h. rw (method-past m h) (ne-eqb m 1 (λ e. omega arith)))
 
 -- ---- by kind, and so by the masks of a method
-
-reading-by : (k : Kind) → eqb (writesBy k) 0 ≡ isReading k
-reading-by (sets a0) = refl
-reading-by (sets a1) = refl
-reading-by (sets a2) = refl
-reading-by (adds a0) = refl
-reading-by (adds a1) = refl
-reading-by (adds a2) = refl
-reading-by (reads m) = refl
-
--- A reading is what writes nothing.
-pub reading-of : (m : ℕ) → eqb (writeMask m) 0 ≡ isReading (kindAt diskTable m)
-unfolding writeMask
-reading-of m = reading-by (kindAt diskTable m)
 
 module _ (f : Figures) where
   carried-by : (k : Kind) → carried f (readsBy k) ≡ carriedBy f k

@@ -15,12 +15,28 @@ use law::Entry::N;
 // 0 ReportUsed, 1 AddPromised, 2 SetPromised, 3 SetState, 4 ReadUsed, 5 ReadLoad, 6 ReadState.
 pub const METHODS: u32 = 7;
 
+const REPORT_USED: u32 = 0;
+
 const ADD_PROMISED: u32 = 1;
 
-// What a method reads, and what it writes: bit 0 used, bit 1 promised, bit 2 state.
-const READS: [u8; 7] = [0, 0, 0, 0, 1, 3, 4];
+const SET_PROMISED: u32 = 2;
 
-const WRITES: [u8; 7] = [1, 2, 2, 4, 0, 0, 0];
+const SET_STATE: u32 = 3;
+
+const READ_USED: u32 = 4;
+
+const READ_LOAD: u32 = 5;
+
+const READ_STATE: u32 = 6;
+
+// The masks: bit 0 used, bit 1 promised, bit 2 state.
+const USED: u8 = 1;
+
+const PROMISED: u8 = 2;
+
+const LOAD: u8 = 3;
+
+const STATE: u8 = 4;
 
 // The compatibility table. Row: active method; column: requested.
 pub const TABLE: [[Entry; 7]; 7] = [
@@ -37,21 +53,32 @@ pub const TABLE: [[Entry; 7]; 7] = [
 pub fn reads(m: u32) -> u8
     ensures { λ r. ⌜ r ≡ readMask m ⌝ }
 {
-    if m < METHODS { READS[m as usize] } else { 0 }
+    match m {
+        READ_USED => USED,
+        READ_LOAD => LOAD,
+        READ_STATE => STATE,
+        _ => 0,
+    }
 }
 
 // The mask of what a method writes: 0 of a reading, and of a method that there is not.
 pub fn writes(m: u32) -> u8
     ensures { λ r. ⌜ r ≡ writeMask m ⌝ }
 {
-    if m < METHODS { WRITES[m as usize] } else { 0 }
+    match m {
+        REPORT_USED => USED,
+        ADD_PROMISED => PROMISED,
+        SET_PROMISED => PROMISED,
+        SET_STATE => STATE,
+        _ => 0,
+    }
 }
 
-// Whether a method writes nothing.
+// Whether a method writes nothing: a reading, or a method that there is not.
 pub fn is_reading(m: u32) -> bool
     ensures { λ r. ⌜ r ≡ isReading (kindAt diskTable m) ⌝ }
 {
-    writes(m) == 0
+    READ_USED <= m
 }
 
 // Whether a method adds.

@@ -52,7 +52,7 @@ fn zero_two(s: &[u8], at: usize) -> bool
     requires { ⌜ at + 8 ≤ length (now s) ⌝ }
     ensures { λ r. ⌜ r ≡ zeroAt (now (s .entry)) at 8 ⌝ }
 {
-    (word_at(s, at) | word_at(s, at + 4)) == 0
+    zero_between(s, at, at + 8)
 }
 
 // Whether the bytes of a range are zero: all are looked at, so that many are looked at together.

@@ -1,20 +1,26 @@
--- The masks, in a row, are those of the kinds; past the end a method reads nothing.
-use native.Mathlib.Omega.{arith}
-use borrow.Author.Needs.{needs}
+-- Each reading has its mask; a write, and a method that there is not, reads nothing.
+use Rattle.law.specs.DiskType.{diskTable}
 use Rattle.lock.specs.Methods.{readMask}
-use Rattle.lock.proofs.MethodLaws.{read-row, method-past}
+use Rattle.lock.proofs.MethodLaws.{read-none}
 use Rattle.lock.proofs.method.reads.Statement.{statement}
 use Rattle.lock.proofs.method.reads.Tie as tie
 
-array-read-result : tie.Need-array-read-result
-array-read-result c = search needs
-
 returns : tie.Need-returns
-returns c = read-row (c .before .args .m)
+unfolding readMask diskTable
+returns c = rw (c .match .keys1)
 
 returns-2 : tie.Need-returns-2
-unfolding readMask
-returns-2 c = rw (method-past (c .before .args .m) (omega arith))
+unfolding readMask diskTable
+returns-2 c = rw (c .match .keys2)
+
+returns-3 : tie.Need-returns-3
+unfolding readMask diskTable
+returns-3 c = rw (c .match .keys3)
+
+returns-4 : tie.Need-returns-4
+returns-4 c =
+    let r = c .match .rest in
+    read-none (c .before .args .m) (r .0 .0 .1) (r .0 .1) (r .1)
 
 pub reads-spec : {M : Type 1} → statement M
-reads-spec = tie.close (tie.spec array-read-result returns returns-2)
+reads-spec = tie.close (tie.spec returns returns-2 returns-3 returns-4)

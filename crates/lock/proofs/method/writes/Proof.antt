@@ -1,20 +1,30 @@
--- The masks, in a row, are those of the kinds; past the end a method writes nothing.
-use native.Mathlib.Omega.{arith}
-use borrow.Author.Needs.{needs}
+-- Each write has its mask; a reading, and a method that there is not, writes nothing.
+use Rattle.law.specs.DiskType.{diskTable}
 use Rattle.lock.specs.Methods.{writeMask}
-use Rattle.lock.proofs.MethodLaws.{write-row, method-past}
+use Rattle.lock.proofs.MethodLaws.{write-none}
 use Rattle.lock.proofs.method.writes.Statement.{statement}
 use Rattle.lock.proofs.method.writes.Tie as tie
 
-array-read-result : tie.Need-array-read-result
-array-read-result c = search needs
-
 returns : tie.Need-returns
-returns c = write-row (c .before .args .m)
+unfolding writeMask diskTable
+returns c = rw (c .match .keys1)
 
 returns-2 : tie.Need-returns-2
-unfolding writeMask
-returns-2 c = rw (method-past (c .before .args .m) (omega arith))
+unfolding writeMask diskTable
+returns-2 c = rw (c .match .keys2)
+
+returns-3 : tie.Need-returns-3
+unfolding writeMask diskTable
+returns-3 c = rw (c .match .keys3)
+
+returns-4 : tie.Need-returns-4
+unfolding writeMask diskTable
+returns-4 c = rw (c .match .keys4)
+
+returns-5 : tie.Need-returns-5
+returns-5 c =
+    let r = c .match .rest in
+    write-none (c .before .args .m) (r .0 .0 .0 .1) (r .0 .0 .1) (r .0 .1) (r .1)
 
 pub writes-spec : {M : Type 1} → statement M
-writes-spec = tie.close (tie.spec array-read-result returns returns-2)
+writes-spec = tie.close (tie.spec returns returns-2 returns-3 returns-4 returns-5)

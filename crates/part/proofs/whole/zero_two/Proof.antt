@@ -1,23 +1,23 @@
--- Two words joined are zero if both are.
+-- They are a range of eight bytes.
+use Prim.Native.Nat.{ℕ, _+_, _-_}
+use mathlib.Core.Path.{_≡_, ap, _∙_}
 use native.Mathlib.Omega.{arith}
 use borrow.Author.Needs.{needs}
-use Rattle.part.specs.ByteLaws.{zero-two}
+use Rattle.part.specs.Layout.{zeroAt}
 use Rattle.part.proofs.whole.zero_two.Statement.{statement}
 use Rattle.part.proofs.whole.zero_two.Tie as tie
 
-word-at-requires : tie.Need-word-at-requires
-word-at-requires c κs = search needs
+add-zero-between : tie.Need-add-zero-between
+add-zero-between c = search needs
 
-add-word-at : tie.Need-add-word-at
-add-word-at c = search needs
-
-word-at-requires-2 : tie.Need-word-at-requires-2
-word-at-requires-2 c κs = search needs
+zero-between-requires : tie.Need-zero-between-requires
+zero-between-requires c κs = search needs
 
 returns : tie.Need-returns
 returns c =
-    let a = c .before .before .before .args in
-    rw (c .before .word-at .ensures, c .word-at2 .ensures) (zero-two (a .s .now) (a .at) (omega arith))
+    let a = c .before .before .args in
+    let size : a .at + 8 - a .at ≡ 8 = omega arith in
+    c .zero-between .ensures ∙ ap (zeroAt (a .s .now) (a .at)) size
 
 pub zero-two-spec : {M : Type 1} → statement M
-zero-two-spec = tie.close (tie.spec word-at-requires add-word-at word-at-requires-2 returns)
+zero-two-spec = tie.close (tie.spec add-zero-between zero-between-requires returns)
