@@ -1,17 +1,22 @@
 //! `sb`: Stopblocker for people. Picks the command, and turns how it ended into an exit code.
 
 mod arguments;
+mod bar;
 mod board_file;
 mod commands;
+mod disk_page;
 mod ending;
 mod fault;
 mod hint;
 mod input;
 mod line;
 mod number;
+mod overview;
 mod pieces;
 mod read_text;
 mod record;
+mod style;
+mod table;
 mod words;
 mod write_text;
 
@@ -22,12 +27,13 @@ use std::ffi::OsString;
 use std::process::ExitCode;
 
 const HELP: &str = "\
-sb: Stopblocker for people. Requests and answers as text, a desk to try.
+sb: Stopblocker for people. Requests and answers as text, a desk to try, a board drawn.
 
     sb encode [FILE]                      text to records
     sb decode [--skip] [FILE]             records to text
     sb explain [--records FILE] [FILE]    the program's output lines in words
     sb run [--board FILE] [FILE]          text to the desk, its answers in words
+    sb show --board FILE [--disk N]       the board drawn
 
 Without FILE, or where it is -, standard input is read.
 sb COMMAND --help says more, sb encode --help how a request is written.

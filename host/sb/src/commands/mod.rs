@@ -4,6 +4,7 @@ mod decode;
 mod encode;
 mod explain;
 mod run;
+mod show;
 
 use crate::arguments::{Options, Takes};
 use crate::ending::Ending;
@@ -15,4 +16,4 @@ pub struct Command {
     pub run: fn(&Options) -> Result<(), Ending>,
 }
 
-pub const COMMANDS: [Command; 4] = [encode::COMMAND, decode::COMMAND, explain::COMMAND, run::COMMAND];
+pub const COMMANDS: [Command; 5] = [encode::COMMAND, decode::COMMAND, explain::COMMAND, run::COMMAND, show::COMMAND];
