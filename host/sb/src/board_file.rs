@@ -9,7 +9,7 @@ use std::thread::sleep;
 use std::time::Duration;
 use stopblocker::layout::BOARD_BYTES;
 
-const TRIES: u32 = 100;
+const TRIES: u32 = 250;
 const BETWEEN: Duration = Duration::from_millis(20);
 
 pub fn empty() -> Vec<u8> {

@@ -23,7 +23,7 @@ with an empty board, and says each answer in words.
 
 With --board the board is read from FILE before and written back after, so that the next run goes on from there; where
 there is no such file, the board is empty. FILE has 49,216 bytes; one of another length is left as it is. It is written
-beside, as FILE.new, and renamed; while FILE.new is there, another run on the same board waits two seconds for it.
+beside, as FILE.new, and renamed; while FILE.new is there, another run on the same board waits five seconds for it.
 
 A bad line is reported as sb encode does; then nothing is run, exit code 1. A refusal is an answer: it leaves the exit
 code 0.
