@@ -1,0 +1,64 @@
+//! `sb show`: the board drawn.
+
+use super::Command;
+use crate::arguments::{Options, Takes};
+use crate::ending::{print, Ending};
+use crate::record::Record;
+use crate::style::Style;
+use crate::{board_file, disk_page, number, overview};
+use std::ffi::OsStr;
+use std::path::Path;
+use stopblocker::layout::ANSWER_BYTES;
+use stopblocker::{step, Board, Disk, Refusal};
+
+pub const COMMAND: Command = Command {
+    name: "show",
+    help: HELP,
+    takes: Takes { values: &["--board", "--disk"], flags: &["--ascii"], file: false },
+    run,
+};
+
+const HELP: &str = "\
+sb show --board FILE [--disk N] [--ascii]
+
+Draws the board of FILE: each open disk a line, with bars for used and promised (to the left of zero where a figure is
+negative), how much each may be off by against its limit, the state, the clock, how many claims are active and waiting.
+With --disk one disk in full: its three attributes and every claim with its ticket, method, priority, value, own error
+or stated limit, second of measuring, what it was told and its amount.
+
+A disk whose part isn't sound is shown as such.
+The drawing is as wide as COLUMNS says, or 100; large figures make it wider. --ascii draws without block characters.
+";
+
+fn run(options: &Options) -> Result<(), Ending> {
+    let name = options.value("--board").ok_or(Ending::Usage("--board FILE is missing".to_string()))?;
+    let disk = options.value("--disk").map(disk_of).transpose()?;
+    let bytes = board_file::read(Path::new(name))?
+        .ok_or(Ending::input(format!("there is no file {}", name.to_string_lossy())))?;
+    let board = Board::from_bytes(&bytes).map_err(|wrong| Ending::input(wrong.to_string()))?;
+    let style = Style::of_environment(options.flag("--ascii"));
+    let sound = |disk: Disk| is_sound(&bytes, disk);
+    print(
+        match disk {
+            Some(disk) => disk_page::draw(&board, disk, sound(disk), &style),
+            None => overview::draw(&board, sound, &style),
+        }
+        .as_bytes(),
+    )
+}
+
+fn disk_of(word: &OsStr) -> Result<Disk, Ending> {
+    let text = word.to_string_lossy();
+    number::read(&text)
+        .and_then(|number| u8::try_from(number).ok())
+        .and_then(Disk::new)
+        .ok_or(Ending::Usage(format!("--disk \"{text}\": expected a disk, 0 to 63")))
+}
+
+/// Whether the desk finds an open disk's part sound: the release of ticket 0, which no claim of a sound part has, at a
+/// second that no clock is above, is refused 21 there, and 14 where it isn't sound. A refusal changes nothing.
+fn is_sound(board: &[u8], disk: Disk) -> bool {
+    let release = Record::Release { disk: disk.number(), now: u32::MAX, ticket: 0 };
+    let code = step(&mut board.to_vec(), &release.bytes(), &mut [0; ANSWER_BYTES]);
+    code != Refusal::Unsound.number()
+}

@@ -1,0 +1,139 @@
+//! What to do about a refusal.
+
+use crate::number::grouped;
+use crate::record::{Claim, Record};
+use stopblocker::{Method, Refusal};
+
+const VALUE_MOST: u32 = 1_000_000_000;
+const LIMIT_MOST: u32 = 2_000_000_000;
+const STATE_MOST: i32 = 255;
+
+/// A hint, closer where the record is known.
+pub fn of(refusal: Refusal, asked: Option<&Result<Record, String>>) -> String {
+    match (refusal, asked) {
+        (Refusal::Record, Some(Err(why))) => why.clone(),
+        (Refusal::Field, Some(Ok(record))) => out_of_range(record).join("; "),
+        _ => general(refusal).to_string(),
+    }
+}
+
+fn general(refusal: Refusal) -> &'static str {
+    match refusal {
+        Refusal::Length => "lend a board of 49,216 bytes and an answer buffer of 144",
+        Refusal::Record => "the sender's fault, or bytes lost on the way; sb decode says what is wrong with a record",
+        Refusal::Disk => "a board has disks 0 to 63",
+        Refusal::Open => "somebody has opened it: go on with claims",
+        Refusal::Closed => "open the disk first",
+        Refusal::Unsound => {
+            "its bytes were changed from outside; no claim or release on it goes until they are put right"
+        }
+        Refusal::Clock => "an accepted call was later than this one; send it again with the present second",
+        Refusal::Method => {
+            "methods are 0 ReportUsed, 1 AddPromised, 2 SetPromised, 3 SetState, 4 ReadUsed, 5 ReadLoad, 6 ReadState"
+        }
+        Refusal::Field => "the sender's fault; sb explain --records names the field",
+        Refusal::OwnError => "measure better: with this own error it could never be granted",
+        Refusal::NoTicket => "all 999,999 tickets of this disk are taken: begin a new board",
+        Refusal::Full => "try again later, or on a disk that is less wanted",
+        Refusal::Ticket => "it was released before, or never was",
+    }
+}
+
+/// Every field of a record that refusal 17 looks at and finds out of range.
+pub fn out_of_range(record: &Record) -> Vec<String> {
+    match record {
+        Record::Open { used_limit, promised_limit, .. } => [("used", *used_limit), ("promised", *promised_limit)]
+            .into_iter()
+            .filter(|(_, limit)| *limit > LIMIT_MOST)
+            .map(|(attribute, limit)| above(&format!("the limit of {attribute}"), limit))
+            .collect(),
+        Record::Claim(claim) => match claim.known_method() {
+            Some(method) if method.is_reading() => of_reading(claim),
+            Some(method) => of_write(claim, method),
+            None => Vec::new(),
+        },
+        Record::Release { .. } => Vec::new(),
+    }
+}
+
+fn of_reading(claim: &Claim) -> Vec<String> {
+    let mut faults = Vec::new();
+    if claim.value != 0 {
+        faults.push(format!("a reading has value 0, not {}", grouped(claim.value.into())));
+    }
+    if claim.measured != 0 {
+        faults.push(format!("a reading has second of measuring 0, not {}", claim.measured));
+    }
+    if claim.error > LIMIT_MOST {
+        faults.push(above("the stated limit", claim.error));
+    }
+    faults
+}
+
+fn of_write(claim: &Claim, method: Method) -> Vec<String> {
+    let mut faults = Vec::new();
+    if method == Method::SetState {
+        if !(0..=STATE_MOST).contains(&claim.value) {
+            faults.push(format!("a state is 0 to {STATE_MOST}, not {}", grouped(claim.value.into())));
+        }
+    } else if claim.value.unsigned_abs() > VALUE_MOST {
+        faults.push(format!("the value {} is not within ±{}", grouped(claim.value.into()), grouped(VALUE_MOST.into())));
+    }
+    if claim.error > LIMIT_MOST {
+        faults.push(above("the own error", claim.error));
+    }
+    if claim.fresh {
+        faults.push("only a reading asks for fresh figures".to_string());
+    }
+    if claim.measured > claim.now {
+        faults.push(format!("measured at {}, after now, which is {}", claim.measured, claim.now));
+    }
+    faults
+}
+
+fn above(what: &str, number: u32) -> String {
+    format!("{what} {} is above {}", grouped(number.into()), grouped(LIMIT_MOST.into()))
+}
+
+#[cfg(test)]
+mod tests {
+    use super::*;
+    use stopblocker::layout::{ANSWER_BYTES, BOARD_BYTES};
+    use stopblocker::step;
+
+    /// On an empty disk, on all edges: a field is named exactly where the desk refuses 17.
+    #[test]
+    fn refusal_17_and_no_other() {
+        let open = Record::Open { disk: 3, now: 7, used_limit: LIMIT_MOST, promised_limit: LIMIT_MOST };
+        let answer = |board: &mut [u8], record: &Record| step(board, &record.bytes(), &mut [0; ANSWER_BYTES]);
+        let (mut named, mut tried) = (0, 0);
+        let mut agrees = |board: &[u8], record: Record| {
+            let code = answer(&mut board.to_vec(), &record);
+            assert_eq!(code == 17, !out_of_range(&record).is_empty(), "{code} {record:?}");
+            named += u32::from(code == 17);
+            tried += 1;
+        };
+
+        let words = [0, 1, LIMIT_MOST, LIMIT_MOST + 1, u32::MAX];
+        for used_limit in words {
+            for promised_limit in words {
+                agrees(&[0; BOARD_BYTES], Record::Open { disk: 3, now: 7, used_limit, promised_limit });
+            }
+        }
+        let mut board = [0; BOARD_BYTES];
+        assert_eq!(answer(&mut board, &open), 3);
+        let most = VALUE_MOST as i32;
+        for value in [0, -1, 1, 255, 256, most, most + 1, -most, -most - 1, i32::MAX, i32::MIN] {
+            for error in words {
+                for (measured, fresh) in [(0, false), (7, false), (8, false), (0, true), (u32::MAX, true)] {
+                    for method in 0..8 {
+                        let claim = Claim { disk: 3, now: 7, method, priority: 0, fresh, measured, value, error };
+                        agrees(&board, Record::Claim(claim));
+                    }
+                }
+            }
+        }
+        assert_eq!(tried, 25 + 11 * 5 * 5 * 8);
+        assert!(named > 500 && named < tried - 300, "{named} of {tried}");
+    }
+}

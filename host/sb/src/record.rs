@@ -1,0 +1,156 @@
+//! A well-formed record, whatever it asks: a disk above 63, a method above 6 or a field out of range is for the desk to
+//! refuse. So it is wider than the crate's requests, which cannot ask all of that.
+
+use stopblocker::layout::{put_signed, put_word, record as at, signed_at, word_at, MARK, RECORD_BYTES};
+use stopblocker::Method;
+
+#[derive(Clone, Copy, PartialEq, Eq, Debug)]
+pub enum Record {
+    Open { disk: u8, now: u32, used_limit: u32, promised_limit: u32 },
+    Claim(Claim),
+    Release { disk: u8, now: u32, ticket: u32 },
+}
+
+#[derive(Clone, Copy, PartialEq, Eq, Debug)]
+pub struct Claim {
+    pub disk: u8,
+    pub now: u32,
+    pub method: u8,
+    pub priority: u8,
+    pub fresh: bool,
+    pub measured: u32,
+    pub value: i32,
+    /// Own error of a write, stated limit of a reading.
+    pub error: u32,
+}
+
+impl Claim {
+    /// The method that its number names, if it is one.
+    pub fn known_method(&self) -> Option<Method> {
+        Method::of(u32::from(self.method))
+    }
+}
+
+impl Record {
+    /// The record of these bytes, or why they are none: what refusal 10 looks at.
+    pub fn of(bytes: &[u8]) -> Result<Record, String> {
+        if bytes.len() != RECORD_BYTES {
+            return Err(format!("{} bytes, expected {RECORD_BYTES}", bytes.len()));
+        }
+        if bytes[..2] != MARK {
+            return Err(format!("begins with {:02x} {:02x}, expected the mark 52 42", bytes[0], bytes[1]));
+        }
+        let (disk, now) = (bytes[at::DISK], word_at(bytes, at::NOW));
+        match bytes[at::KIND] {
+            1 => unused(bytes, &[4, 5, 6, 7, 12, 13, 14, 15]).map(|()| Record::Open {
+                disk,
+                now,
+                used_limit: word_at(bytes, at::USED_LIMIT),
+                promised_limit: word_at(bytes, at::PROMISED_LIMIT),
+            }),
+            2 if bytes[at::FRESH] > 1 => Err(format!("fresh flag {}, expected 0 or 1", bytes[at::FRESH])),
+            2 => unused(bytes, &[7]).map(|()| {
+                Record::Claim(Claim {
+                    disk,
+                    now,
+                    method: bytes[at::METHOD],
+                    priority: bytes[at::PRIORITY],
+                    fresh: bytes[at::FRESH] == 1,
+                    measured: word_at(bytes, at::MEASURED),
+                    value: signed_at(bytes, at::VALUE),
+                    error: word_at(bytes, at::OWN_ERROR),
+                })
+            }),
+            3 => unused(bytes, &[4, 5, 6, 7, 16, 17, 18, 19, 20, 21, 22, 23]).map(|()| Record::Release {
+                disk,
+                now,
+                ticket: word_at(bytes, at::TICKET),
+            }),
+            kind => Err(format!("kind {kind}, expected 1 (open), 2 (claim) or 3 (release)")),
+        }
+    }
+
+    pub fn disk(&self) -> u8 {
+        match *self {
+            Record::Open { disk, .. } | Record::Release { disk, .. } => disk,
+            Record::Claim(claim) => claim.disk,
+        }
+    }
+
+    pub fn bytes(&self) -> [u8; RECORD_BYTES] {
+        match *self {
+            Record::Open { disk, now, used_limit, promised_limit } => {
+                let mut bytes = begun(1, disk, now);
+                put_word(&mut bytes, at::USED_LIMIT, used_limit);
+                put_word(&mut bytes, at::PROMISED_LIMIT, promised_limit);
+                bytes
+            }
+            Record::Claim(claim) => {
+                let mut bytes = begun(2, claim.disk, claim.now);
+                bytes[at::METHOD] = claim.method;
+                bytes[at::PRIORITY] = claim.priority;
+                bytes[at::FRESH] = u8::from(claim.fresh);
+                put_word(&mut bytes, at::MEASURED, claim.measured);
+                put_signed(&mut bytes, at::VALUE, claim.value);
+                put_word(&mut bytes, at::OWN_ERROR, claim.error);
+                bytes
+            }
+            Record::Release { disk, now, ticket } => {
+                let mut bytes = begun(3, disk, now);
+                put_word(&mut bytes, at::TICKET, ticket);
+                bytes
+            }
+        }
+    }
+}
+
+fn begun(kind: u8, disk: u8, now: u32) -> [u8; RECORD_BYTES] {
+    let mut bytes = [0; RECORD_BYTES];
+    bytes[..2].copy_from_slice(&MARK);
+    bytes[at::KIND] = kind;
+    bytes[at::DISK] = disk;
+    put_word(&mut bytes, at::NOW, now);
+    bytes
+}
+
+fn unused(bytes: &[u8], places: &[usize]) -> Result<(), String> {
+    match places.iter().find(|&&place| bytes[place] != 0) {
+        Some(&place) => Err(format!("byte {place} is {}, expected 0", bytes[place])),
+        None => Ok(()),
+    }
+}
+
+#[cfg(test)]
+mod tests {
+    use super::*;
+    use stopblocker::layout::{ANSWER_BYTES, BOARD_BYTES};
+    use stopblocker::step;
+
+    /// Every byte of three records in turn takes every value: it is a record exactly where the desk does not refuse 10,
+    /// and then it gives back its bytes.
+    #[test]
+    fn refusal_10_and_no_other() {
+        let claim = Claim { disk: 3, now: 9, method: 2, priority: 5, fresh: true, measured: 8, value: -7, error: 6 };
+        let open = Record::Open { disk: 3, now: 9, used_limit: 1_000, promised_limit: 500 };
+        let release = Record::Release { disk: 3, now: 9, ticket: 77 };
+        let mut refused = 0;
+        for record in [open, Record::Claim(claim), release] {
+            for place in 0..RECORD_BYTES {
+                for byte in 0..=255 {
+                    let mut bytes = record.bytes();
+                    bytes[place] = byte;
+                    let code = step(&mut [0; BOARD_BYTES], &bytes, &mut [0; ANSWER_BYTES]);
+                    match Record::of(&bytes) {
+                        Ok(record) => assert!(code != 10 && record.bytes() == bytes, "{bytes:?}"),
+                        Err(_) => assert_eq!(code, 10, "{bytes:?}"),
+                    }
+                    refused += u32::from(code == 10);
+                }
+            }
+        }
+        // The mark; the kind, where an open and a release make claims too; the unused bytes; the claim's flag.
+        assert_eq!(refused, 3 * 2 * 255 + (254 + 255 + 254) + (8 + 1 + 12) * 255 + 254);
+        assert_eq!(Record::of(&open.bytes()[..23]), Err("23 bytes, expected 24".to_string()));
+        assert!(Record::of(&[&open.bytes()[..], &[0]].concat()).is_err() && Record::of(&[]).is_err());
+    }
+}
