@@ -32,45 +32,66 @@ module _ (s : List ℕ) (at : ℕ) where
   unfolding pieceAt
   piece-whole h l = rw (lt-leb _ _ h, le-leb _ _ l)
 
--- A piece begins at a place: it ends further on, within the run, and the pieces go on from there.
-pub record Moves (s : List ℕ) (at : ℕ) : Type 0 where
-  pub to : ℕ
-  pub forward : at < to
-  pub within : to ≤ length s
-  pub ends : endOf (pieceAt s at) at ≡ to
-  pub goes : (more : ℕ → List Span) → onwards (pieceAt s at) at more ≡ span at to ∷ more to
+-- The three cases.
+pub data Begins (s : List ℕ) (at : ℕ) : Type 0 where
+  none : length s ≤ at → pieceAt s at ≡ End → Begins s at
+  whole : at + lengthAt s at ≤ length s → pieceAt s at ≡ Record (at + lengthAt s at) → Begins s at
+  short : at < length s → length s < at + lengthAt s at → pieceAt s at ≡ Short (length s) → Begins s at
 
 module _ (s : List ℕ) (at : ℕ) where
-  moves-whole : at < length s → at + lengthAt s at ≤ length s → Moves s at
-  moves-whole h l =
-      record {
-        to = at + lengthAt s at;
-        forward = omega (arith, length-least (getD s (at + 2) 0));
-        within = l;
-        ends = rw (piece-whole s at h l);
-        goes = λ more. rw (piece-whole s at h l);
-      }
+  begun : at < length s → Begins s at
+  begun h =
+      ⊎-elim
+      (λ (e : at + lengthAt s at - length s ≡ 0). whole (omega arith) (piece-whole s at h (omega arith)))
+      (λ (l : 0 < at + lengthAt s at - length s). short h (omega arith) (piece-short s at h (omega arith)))
+      (eq-zero-or-pos (at + lengthAt s at - length s))
 
-  moves-short : at < length s → length s < at + lengthAt s at → Moves s at
-  moves-short h l =
-      record {
-        to = length s;
-        forward = h;
-        within = omega arith;
-        ends = rw (piece-short s at h l);
-        goes = λ more. rw (piece-short s at h l);
-      }
-
-  -- The run is at its end there, or a piece begins.
-  pub begins : (length s ≤ at) ⊎ Moves s at
+  pub begins : Begins s at
   begins =
-      ⊎-elim (λ (e : length s - at ≡ 0). inl (omega arith))
-      (λ (h : 0 < length s - at).
-      inr
-      (⊎-elim (λ (e : at + lengthAt s at - length s ≡ 0). moves-whole (omega arith) (omega arith))
-      (λ (l : 0 < at + lengthAt s at - length s). moves-short (omega arith) (omega arith))
-      (eq-zero-or-pos (at + lengthAt s at - length s))))
+      ⊎-elim
+      (λ (e : length s - at ≡ 0). none (omega arith) (piece-end s at (omega arith)))
+      (λ (h : 0 < length s - at). begun (omega arith))
       (eq-zero-or-pos (length s - at))
+
+  -- A whole record has the length of its kind, within the run.
+  pub whole-is : (to : ℕ) → pieceAt s at ≡ Record to → (to ≡ at + lengthAt s at) × (to ≤ length s)
+  whole-is to e = by-case begins
+    where
+      by-case : Begins s at → (to ≡ at + lengthAt s at) × (to ≤ length s)
+      by-case (none l h) = let z : _≡_ {A = ℕ} 0 1 = cc in absurd (omega arith)
+      by-case (whole l h) = let q : to ≡ at + lengthAt s at = cc in (q, omega arith)
+      by-case (short l k h) = let z : _≡_ {A = ℕ} 0 1 = cc in absurd (omega arith)
+
+  -- A short piece is all that is left, and too little for a record of its kind.
+  pub short-is : (to : ℕ) → pieceAt s at ≡ Short to → (to ≡ length s) × ((at < to) × (to < at + lengthAt s at))
+  short-is to e = by-case begins
+    where
+      by-case : Begins s at → (to ≡ length s) × ((at < to) × (to < at + lengthAt s at))
+      by-case (none l h) = let z : _≡_ {A = ℕ} 0 1 = cc in absurd (omega arith)
+      by-case (whole l h) = let z : _≡_ {A = ℕ} 0 1 = cc in absurd (omega arith)
+      by-case (short l k h) = let q : to ≡ length s = cc in (q, (omega arith, omega arith))
+
+-- A piece begins at a place: it ends further on, within the run, and the pieces go on from there.
+record Moves (s : List ℕ) (at : ℕ) : Type 0 where
+  to : ℕ
+  forward : at < to
+  within : to ≤ length s
+  ends : endOf (pieceAt s at) at ≡ to
+  goes : (more : ℕ → List Span) → onwards (pieceAt s at) at more ≡ span at to ∷ more to
+
+-- The run is at its end there, or a piece begins.
+moves : (s : List ℕ) (at : ℕ) → Begins s at → (length s ≤ at) ⊎ Moves s at
+moves s at (none l e) = inl l
+moves s at (whole l e) =
+    inr
+    (record {
+      to = at + lengthAt s at;
+      forward = omega (arith, length-least (getD s (at + 2) 0));
+      within = l;
+      ends = rw e;
+      goes = λ more. rw e;
+    })
+moves s at (short l k e) = inr (record { to = length s; forward = l; within = omega arith; ends = rw e; goes = λ more. rw e })
 
 -- ---- the walk ends
 
@@ -82,7 +103,7 @@ walked-to-end (suc n) s at h =
     ⊎-elim
     (λ (e : length s ≤ at). walked-to-end n s (endOf (pieceAt s at) at) (rw (piece-end s at e) (omega arith)))
     (λ (m : Moves s at). walked-to-end n s (endOf (pieceAt s at) at) (rw (m .ends) (omega (arith, m .forward))))
-    (begins s at)
+    (moves s at (begins s at))
 
 -- ---- the pieces of a run, joined
 
@@ -104,7 +125,7 @@ joined-from (suc n) s at h =
     ap (joined s) (m .goes (spansFrom n s))
     ∙ ap (λ (r : List ℕ). bytesOf s (span at (m .to)) ++ r) (joined-from n s (m .to) (omega (arith, m .forward)))
     ∙ apart s at (m .to) (omega (arith, m .forward)))
-    (begins s at)
+    (moves s at (begins s at))
 
 -- ---- every byte is in one piece
 
@@ -117,7 +138,7 @@ having-none (suc n) i s at h =
     (λ (m : Moves s at).
     ap (having i) (m .goes (spansFrom n s))
     ∙ rw (lt-leb at i h) (having-none n i s (m .to) (omega (arith, m .forward))))
-    (begins s at)
+    (moves s at (begins s at))
 
 pub having-one : (n i : ℕ) (s : List ℕ) (at : ℕ) → length s ≤ at + n → at ≤ i → i < length s → having i (spansFrom n s at) ≡ 1
 unfolding spansFrom having
@@ -133,4 +154,4 @@ having-one (suc n) i s at h l k =
     (λ (b : 0 < i + 1 - m .to).
     rw (le-ltb i (m .to) (omega arith)) (having-one n i s (m .to) (omega (arith, m .forward)) (omega arith) k))
     (eq-zero-or-pos (i + 1 - m .to))))
-    (begins s at)
+    (moves s at (begins s at))
