@@ -7,11 +7,10 @@ use native.Mathlib.Nat.{eq-zero-or-pos}
 use native.Mathlib.Omega.{arith}
 use borrow.Author.Tests.{eq-eqb, ne-eqb}
 use denote.Ref.{RefT}
-use lib.Dec.{eqb}
-use lib.ListN.{length, getD, take, drop, length-take, length-drop, List·getD-eq-default}
+use lib.ListN.{length, getD, drop, length-take, length-drop, List·getD-eq-default}
 use lib.Seq.{getD-take, getD-drop}
 use Rattle.answer.specs.Answers.{answerSize}
-use Rattle.desk.specs.Record.{byteAt, kindOf, recordBytes, wellFormed}
+use Rattle.desk.specs.Record.{kindOf, recordBytes, wellFormed}
 use Rattle.desk.specs.Board.{boardBytes}
 use Rattle.desk.specs.Step.{tellOf, stepOf}
 use Rattle.records.specs.declared.Reader.{Reader}

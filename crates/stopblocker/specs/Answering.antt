@@ -1,7 +1,7 @@
 -- How the program goes through a run of records: each piece that is due is one call of the desk, and its lines.
 use Prim.Native.Nat.{ℕ, zero, suc, _+_}
 use mathlib.Core.Bool.{Bool, cond}
-use mathlib.Core.List.{List, [], _∷_, _++_}
+use mathlib.Core.List.{List, [], _++_}
 use lib.Dec.{eqb, ltb}
 use lib.ListN.{length, getD, replicate}
 use Rattle.desk.specs.Step.{Stepped, stepOf}

@@ -1,6 +1,6 @@
 -- Laws of going through a run: what is due lies within it, a piece that is not the last has its whole length, and more turns than
 -- there are pieces change nothing.
-use Prim.Native.Nat.{ℕ, zero, suc, _+_, _-_, _*_, _≤_, _<_}
+use Prim.Native.Nat.{ℕ, zero, suc, _+_, _-_, _≤_, _<_}
 use mathlib.Core.Bool.{Bool, true, false}
 use mathlib.Core.List.{List, _++_, append-assoc}
 use mathlib.Core.Logic.{⊎-elim}
@@ -12,9 +12,9 @@ use lib.ListN.{length, getD, take, drop, length-append}
 use lib.Seq.{length-take-le, take-at}
 use Rattle.num.specs.Runs.{splice}
 use Rattle.num.specs.RunLaws.{splice-eq}
-use Rattle.records.specs.Pieces.{lengthOf, lengthAt, pieceAt}
+use Rattle.records.specs.Pieces.{lengthOf}
 use Rattle.records.specs.PieceLaws.{Begins, none, whole, short, begins}
-use Rattle.stopblocker.specs.Answering.{dueOf, dueAt, Reached, answeredTo, answeredBy}
+use Rattle.stopblocker.specs.Answering.{dueAt, Reached, answeredTo, answeredBy}
 
 -- ---- what is due
 

@@ -2,7 +2,7 @@
 use borrow.Author.Needs.{needs}
 use Prim.Native.Nat.{_+_}
 use native.Mathlib.Omega.{arith}
-use lib.ListN.{length, getD}
+use lib.ListN.{getD}
 use mathlib.Core.Path.{sym, ap, _∙_}
 use Rattle.records.specs.declared.Piece.the-variants.{Record}
 use Rattle.records.specs.PieceLaws.{length-least, piece-end, piece-short, piece-whole}

@@ -1,7 +1,6 @@
 -- Every turn but the last reads bytes, of which only so many are counted; a record has at least one, so the number fits.
 use Prim.Native.Nat.{_+_, _-_, _≤_}
-use mathlib.Core.Path.{_≡_, refl, _∙_}
-use native.Mathlib.Omega.{arith}
+use mathlib.Core.Path.{_≡_}
 use lib.ListN.{length}
 use borrow.Author.Needs.{needs}
 use Rattle.stopblocker.proofs.answer_input.Statement.{statement}

@@ -1,14 +1,14 @@
 -- What is left, answered from where the loop stands, is all of it answered from the start.
-use Prim.Native.Nat.{ℕ, suc, _+_, _-_, _*_, _^_, _≤_, _<_}
+use Prim.Native.Nat.{ℕ, suc, _+_, _-_, _*_, _≤_, _<_}
 use mathlib.Core.Bool.{Bool}
-use mathlib.Core.List.{List, [], _++_}
+use mathlib.Core.List.{List, _++_}
 use mathlib.Core.Path.{_≡_, refl, sym, ap, _∙_}
 use native.Mathlib.Omega.{arith}
 use lib.ListN.{length, take}
 use Rattle.num.specs.Runs.{splice}
 use Rattle.num.specs.RunLaws.{length-splice}
 use Rattle.records.specs.Pieces.{span, bytesOf}
-use Rattle.stopblocker.specs.Answering.{called, answerLines, dueAt, Reached, reached, answeredTo, answeredBy, answeredRun}
+use Rattle.stopblocker.specs.Answering.{called, answerLines, dueAt, reached, answeredTo, answeredBy, answeredRun}
 use Rattle.stopblocker.specs.AnsweringLaws.{due, answered-more, answered-none, answered-enough, take-splice}
 use borrow.Author.Needs.{needs}
 use Rattle.stopblocker.proofs.answer_run.Statement.{statement}

@@ -1,5 +1,5 @@
 -- Each byte is read where none has been written yet, and put behind those that were moved before it.
-use Prim.Native.Nat.{ℕ, suc, _+_, _-_, _≤_, _<_}
+use Prim.Native.Nat.{ℕ, _+_, _-_, _≤_, _<_}
 use mathlib.Core.List.{List, [], _∷_, _++_}
 use mathlib.Core.Path.{_≡_, refl, sym, ap, _∙_}
 use native.Mathlib.Numerals.{add-one}
@@ -8,7 +8,6 @@ use lib.ListN.{length, getD, set, take, drop, length-set, length-drop}
 use lib.Seq.{length-take-le, take-suc, getD-drop, getD-set-other}
 use Rattle.num.specs.Runs.{splice}
 use Rattle.num.specs.RunLaws.{splice-none, splice-splice}
-use Rattle.records.specs.Pieces.{span, bytesOf}
 use borrow.Author.Needs.{needs}
 use Rattle.stopblocker.proofs.carry.Statement.{statement}
 use Rattle.stopblocker.proofs.carry.Tie as tie

@@ -1,6 +1,5 @@
 -- Refused 10, it is 0; else it is byte 3, and 0 where there is none.
 use mathlib.Core.Path.{sym}
-use native.Mathlib.Omega.{arith}
 use borrow.Author.Tests.{eq-eqb, ne-eqb}
 use lib.ListN.{List·getD-eq-default}
 use Rattle.stopblocker.specs.Answering.{shownDisk}

@@ -1,13 +1,8 @@
 -- The four figures are those of the item.
-use Prim.Native.Nat.{_+_, _*_}
-use mathlib.Core.Path.{_≡_, ap, _∙_}
-use native.Mathlib.Omega.{arith}
+use mathlib.Core.Path.{_≡_}
 use mir.Facts.{toZ-ofZ}
 use mir.Syntax.{w32}
 use mir.Val.{toZ, ofZ}
-use lib.ListN.{length}
-use Rattle.num.specs.Word.{wordAt}
-use Rattle.num.specs.Signed.{signedAt}
 use Rattle.stopblocker.specs.Lines.{figures, itemText}
 use borrow.Author.Needs.{needs, sfits-of}
 use Rattle.stopblocker.proofs.lines.put_item.Statement.{statement}

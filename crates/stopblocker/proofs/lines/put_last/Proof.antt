@@ -1,7 +1,7 @@
 -- The number, and the end of the line behind it.
 use mathlib.Core.List.{[], _∷_}
 use native.Mathlib.Omega.{arith}
-use lib.ListN.{length, length-append}
+use lib.ListN.{length-append}
 use Rattle.stopblocker.specs.Lines.{next}
 use Rattle.stopblocker.specs.LineLaws.{behind}
 use borrow.Author.Needs.{needs}

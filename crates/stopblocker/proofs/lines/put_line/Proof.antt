@@ -1,7 +1,6 @@
 -- The number, the disk and the item, one behind the other.
 use mathlib.Core.List.{_++_}
 use native.Mathlib.Omega.{arith}
-use lib.ListN.{length}
 use Rattle.stopblocker.specs.Text.{decimal}
 use Rattle.stopblocker.specs.Lines.{next, itemText, lineOf}
 use Rattle.stopblocker.specs.LineLaws.{put-size, behind, length-line}

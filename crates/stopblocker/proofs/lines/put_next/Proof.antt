@@ -1,6 +1,5 @@
 -- A space, and the number behind it.
 use mathlib.Core.List.{[], _∷_}
-use native.Mathlib.Omega.{arith}
 use Rattle.stopblocker.specs.Text.{decimal}
 use Rattle.stopblocker.specs.LineLaws.{behind}
 use borrow.Author.Needs.{needs}

@@ -2,7 +2,6 @@
 use mathlib.Core.List.{[], _∷_}
 use native.Mathlib.Omega.{arith}
 use mir.Facts.{toZ-ofZ}
-use lib.ListN.{length}
 use Rattle.stopblocker.specs.Text.{signedText}
 use Rattle.stopblocker.specs.LineLaws.{behind}
 use borrow.Author.Needs.{needs}

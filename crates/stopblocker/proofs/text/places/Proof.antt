@@ -1,12 +1,11 @@
 -- Each turn takes a tenth and counts it; what is counted and what is left to count make the number of places.
 use Prim.Native.Nat.{ℕ, suc, _+_, _-_, _/_, _^_, _≤_, _<_}
 use mathlib.Core.Logic.{⊎-elim}
-use mathlib.Core.Path.{_≡_, ap, _∙_}
+use mathlib.Core.Path.{_≡_}
 use native.Mathlib.Nat.{eq-zero-or-pos, pow-zero, pow-suc}
 use native.Mathlib.Omega.{arith}
 use Rattle.stopblocker.specs.Text.{tenths, places}
 use Rattle.stopblocker.specs.TextLaws.{tenths-none, tenths-more}
-use borrow.Author.Needs.{needs}
 use Rattle.stopblocker.proofs.text.places.Statement.{statement}
 use Rattle.stopblocker.proofs.text.places.Tie as tie
 

@@ -1,12 +1,12 @@
 -- From the last digit to the first, each in front of those that are there.
-use Prim.Native.Nat.{ℕ, suc, _+_, _-_, _/_, _%_, _^_, _≤_, _<_}
+use Prim.Native.Nat.{ℕ, suc, _+_, _-_, _/_, _%_, _^_, _≤_}
 use mathlib.Core.List.{List}
-use mathlib.Core.Path.{_≡_, refl, sym, ap, _∙_}
+use mathlib.Core.Path.{_≡_, refl, sym, _∙_}
 use native.Mathlib.Nat.{pow-zero, pow-suc, div-one, div-div-eq-div-mul}
 use native.Mathlib.Omega.{arith}
 use lib.ListN.{length, set, length-set}
 use Rattle.num.specs.Runs.{splice}
-use Rattle.num.specs.RunLaws.{splice-none, length-splice}
+use Rattle.num.specs.RunLaws.{splice-none}
 use Rattle.stopblocker.specs.Text.{digits}
 use Rattle.stopblocker.specs.TextLaws.{digits-front, splice-front}
 use borrow.Author.Needs.{needs}
