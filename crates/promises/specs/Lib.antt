@@ -5,6 +5,7 @@ pub mod Demand1
 pub mod Demand3
 pub mod Kept
 pub mod Unique
+pub mod Reading
 pub mod RefusalLaws
 pub mod CaseLaws
 pub mod LifeLaws

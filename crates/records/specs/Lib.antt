@@ -1,0 +1,3 @@
+-- What a run of records is made of, then laws.
+pub mod Pieces
+pub mod PieceLaws
