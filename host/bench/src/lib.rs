@@ -5,6 +5,7 @@ pub mod clock;
 pub mod equal;
 pub mod hand;
 pub mod making;
+pub mod random;
 pub mod situations;
 mod sqlite;
 pub mod store;

@@ -9,7 +9,7 @@
 use bench::making::{Call, Workload};
 use bench::store::Store;
 use bench::turns::{by_desk, by_hand, by_nothing, Turns};
-use bench::{clock, equal, situations, workload};
+use bench::{clock, equal, random, situations, workload};
 use std::collections::HashMap;
 use std::{env, fs, process};
 use stopblocker::layout::ANSWER_BYTES;
@@ -123,7 +123,7 @@ fn time(counts: &Counts) {
             same(equal::on_store(workload, store));
         }
     }
-    same(equal::on_random_calls(RANDOM_CALLS, 7).map(|_| ()));
+    same(random::on_random_calls(RANDOM_CALLS, 7).map(|_| ()));
     match &store {
         Some(store) => println!("SQLite {}, in memory.\n", store.version()),
         None => println!("SQLite is not installed, so it was left out.\n"),

@@ -1,7 +1,8 @@
 //! The engines answer alike: what the bench runs before it times anything.
 
-use bench::equal::{on_random_calls, on_store, on_workload, Both};
+use bench::equal::{on_store, on_workload, Both};
 use bench::making::Workload;
+use bench::random::on_random_calls;
 use bench::store::Store;
 use bench::{situations, workload};
 use stopblocker::layout::BOARD_BYTES;
