@@ -1,7 +1,9 @@
 //! Open, claim and release on a part, and the pass.
 
-use super::decide::{decide, grant, limit, Among};
+use super::decide::{decide, grant, Among};
+use super::figures::limit;
 use super::layout::{Answer, Figure, Part, Slot, Word, PLACES};
+use super::pass::pass;
 use super::sound::{Seen, MOST_ERROR, MOST_STATE, MOST_VALUE};
 use super::Record;
 
@@ -180,32 +182,5 @@ fn take(slots: &mut [Slot; PLACES], n: usize, at: usize) {
     }
     if let Some(last) = claims.last_mut() {
         *last = Slot::EMPTY;
-    }
-}
-
-/// Tries each of the m waiting claims once, in order. Of those tried, the first `kept` still wait. It ends where eight
-/// are active: the rest wait on.
-#[inline(always)]
-fn pass(part: &mut Part, m: usize, among: &mut Among, answer: &mut Answer) {
-    let (mut kept, mut granted) = (0, 0);
-    for k in 0..m.min(PLACES) {
-        let claim = part.waiting[k];
-        if let Some(total) = decide(part, kept, &claim, among) {
-            granted += 1;
-            answer.items[granted] = grant(part, claim, total, among);
-        } else {
-            among.ahead |= 1u8 << (claim.method.get() & 7);
-            if kept < k {
-                part.waiting[kept] = claim;
-            }
-            kept += 1;
-        }
-    }
-    if granted > 0 {
-        for slot in &mut part.waiting[kept..m] {
-            *slot = Slot::EMPTY;
-        }
-        part.actives = Word::of(among.actives as u32);
-        part.waitings = Word::of(kept as u32);
     }
 }

@@ -1,14 +1,7 @@
 //! The decision on a claim: preconditions, barring, lock step, place; and its grant.
 
+use super::figures::{carried, gap, preconditions, told, written, ADD_PROMISED, READ_USED, REPORT_USED, SET_PROMISED};
 use super::layout::{Item, Part, Slot, Word, PLACES};
-use super::sound::MOST_VALUE;
-
-const REPORT_USED: u32 = 0;
-const ADD_PROMISED: u32 = 1;
-const SET_PROMISED: u32 = 2;
-const READ_USED: u32 = 4;
-const READ_LOAD: u32 = 5;
-const READ_STATE: u32 = 6;
 
 /// By requested method, the methods whose entry with it is N: AddPromised and SetPromised, SetState and itself and
 /// ReadState.
@@ -30,78 +23,6 @@ pub struct Among {
     pub ahead: u8,
     /// The sum of |d| over the active adds.
     pub adds: u64,
-}
-
-/// A write's attribute: amount and limit.
-#[inline(always)]
-fn written(part: &Part, method: u32) -> (u32, u32) {
-    match method {
-        REPORT_USED => (part.used.amount.get(), part.used.limit.get()),
-        ADD_PROMISED | SET_PROMISED => (part.promised.amount.get(), part.promised.limit.get()),
-        _ => (0, 0),
-    }
-}
-
-/// The own error that a write of the method may have: its attribute's limit.
-#[inline(always)]
-pub fn limit(part: &Part, method: u32) -> u32 {
-    written(part, method).1
-}
-
-/// The sum of the amounts that a reading reads.
-#[inline(always)]
-fn carried(part: &Part, method: u32) -> u64 {
-    let used = if method == READ_STATE { 0 } else { part.used.amount.get() };
-    let promised = if method == READ_LOAD { part.promised.amount.get() } else { 0 };
-    used as u64 + promised as u64
-}
-
-/// The sum of the values that a reading reads.
-#[inline(always)]
-fn told(part: &Part, method: u32) -> i32 {
-    match method {
-        READ_USED => part.used.value.signed(),
-        READ_LOAD => part.used.value.signed().wrapping_add(part.promised.value.signed()),
-        _ => part.state.signed(),
-    }
-}
-
-/// Whether the figures that a reading reads are fresh.
-#[inline(always)]
-fn fresh(part: &Part, method: u32, now: u32) -> bool {
-    let after = |stamp: Word, valid: u64| stamp.get() as u64 + valid > now as u64;
-    match method {
-        READ_USED => after(part.used.stamp, 300),
-        READ_LOAD => after(part.used.stamp, 300) && after(part.promised.stamp, 300),
-        _ => after(part.state_stamp, 3_600),
-    }
-}
-
-/// Preconditions (a) to (d).
-#[inline(always)]
-fn preconditions(part: &Part, claim: &Slot, now: u32, adds: u64) -> bool {
-    let method = claim.method.get();
-    let error = claim.error.get() as u64;
-    if method >= READ_USED {
-        return carried(part, method) <= error && (claim.fresh.get() == 0 || fresh(part, method, now));
-    }
-    method != ADD_PROMISED
-        || part.promised.amount.get() as u64 + error <= part.promised.limit.get() as u64
-            && part.promised.value.signed().unsigned_abs() as u64 + adds + claim.value.signed().unsigned_abs() as u64
-                <= MOST_VALUE as u64
-}
-
-/// The gap of a write.
-#[inline(always)]
-fn gap(part: &Part, write: &Slot) -> u64 {
-    let value = write.value.signed();
-    let from = match write.method.get() {
-        REPORT_USED => part.used.value.signed(),
-        ADD_PROMISED => 0,
-        SET_PROMISED => part.promised.value.signed(),
-        _ => part.state.signed(),
-    };
-    value.abs_diff(from) as u64
 }
 
 /// Whether one of the waiting claims ahead bars: they stand in the pass's order, so the first of lower priority ends it.

@@ -12,7 +12,10 @@
 
 mod calls;
 mod decide;
+mod figures;
+mod gather;
 mod layout;
+mod pass;
 mod sound;
 
 use layout::{eight_at, Answer, Part, ANSWER_BYTES, BOARD_BYTES, HEAD_BYTES, PART_BYTES, RECORD_BYTES};

@@ -1,15 +1,14 @@
 //! The soundness test: one walk over the claims. What is wrong is gathered, and asked for once.
 
+use super::gather::{Above, Wrong};
 use super::layout::{eight_at, Part, Slot, PLACES, SLOT_BYTES};
 
 pub const MOST_VALUE: u32 = 1_000_000_000;
 pub const MOST_ERROR: u32 = 2_000_000_000;
 pub const MOST_STATE: u32 = 255;
 const MOST_NEXT: u32 = 1_000_000;
-const MOST_PRIORITY: u32 = 255;
-const MOST_METHOD: u32 = 6;
 const ADD_PROMISED: u32 = 1;
-const FIRST_READING: u32 = 4;
+pub const FIRST_READING: u32 = 4;
 
 /// What the test has seen on the way, for the decision.
 #[derive(Default)]
@@ -116,79 +115,6 @@ fn claims(part: &Part, n: usize, m: usize) -> Option<Seen> {
         return None;
     }
     Some(Seen { actives: n, waitings: m, active: active as u8, waiting: waiting as u8, adds })
-}
-
-/// Four words of a slot: its first four, or the four behind them.
-type Four = [u32; 4];
-
-/// The least ticket, method, priority and flag.
-const FIRST: Four = [1, 0, 0, 0];
-
-/// By method, and of all readings at once: the least measuring second, value, error and told.
-const THEN: [Four; 5] = [
-    [0, MOST_VALUE.wrapping_neg(), 0, 0],
-    [0, MOST_VALUE.wrapping_neg(), 0, 0],
-    [0, MOST_VALUE.wrapping_neg(), 0, 0],
-    [0, 0, 0, 0],
-    [0, 0, 0, MOST_ERROR.wrapping_neg()],
-];
-
-/// How far above the least each may lie, by method and of all readings at once.
-struct Above {
-    first: [Four; 5],
-    then: [Four; 5],
-}
-
-impl Above {
-    #[inline(always)]
-    fn of(part: &Part) -> Above {
-        let tickets = part.next.get().wrapping_sub(2);
-        let clock = part.clock.get();
-        let write = [tickets, MOST_METHOD, MOST_PRIORITY, 0];
-        let reading = [tickets, MOST_METHOD, MOST_PRIORITY, 1];
-        let set = |limit| [clock, 2 * MOST_VALUE, limit, 0];
-        let (used, promised) = (set(part.used.limit.get()), set(part.promised.limit.get()));
-        Above {
-            first: [write, write, write, write, reading],
-            then: [used, promised, promised, [clock, MOST_STATE, 0, 0], [0, 0, MOST_ERROR, 2 * MOST_ERROR]],
-        }
-    }
-}
-
-/// What is wrong, gathered: anything but zeros is. And the last six bits of the tickets, those met and those met again:
-/// where none is met again, the tickets differ.
-#[derive(Default)]
-struct Wrong {
-    first: Four,
-    then: Four,
-    rest: u32,
-    zero: u64,
-    met: u64,
-    again: u64,
-}
-
-impl Wrong {
-    /// A claim by itself: ranges, 16 to 18, told, the two words behind; and its ticket.
-    #[inline(always)]
-    fn gather(&mut self, claim: &Slot, above: &Above) {
-        let by = claim.method.get().min(FIRST_READING) as usize;
-        let first = [claim.ticket.get(), claim.method.get(), claim.priority.get(), claim.fresh.get()];
-        let then = [claim.measured.get(), claim.value.get(), claim.error.get(), claim.told.get()];
-        for k in 0..4 {
-            self.first[k] |= first[k].wrapping_sub(FIRST[k]).saturating_sub(above.first[by][k]);
-            self.then[k] |= then[k].wrapping_sub(THEN[by][k]).saturating_sub(above.then[by][k]);
-        }
-        self.zero |= u64::from_le_bytes(claim.zero);
-        let bit = 1 << (claim.ticket.get() & 63);
-        self.again |= self.met & bit;
-        self.met |= bit;
-    }
-
-    #[inline(always)]
-    fn is_any(&self) -> bool {
-        let four = |x: &Four| x[0] | x[1] | x[2] | x[3];
-        four(&self.first) | four(&self.then) | self.rest | (self.zero | self.zero >> 32) as u32 != 0
-    }
 }
 
 /// Whether two active claims have entry N, by the methods that are active and those that are twice: an AddPromised beside
