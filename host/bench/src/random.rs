@@ -1,0 +1,191 @@
+//! Random calls by the desk and the hand-written engine, on boards that are damaged now and then.
+
+use crate::chance::Chance;
+use crate::equal::Both;
+use crate::making::Call;
+use stopblocker::layout::{
+    part, part_at, put_word, slot, word_at, BOARD_BYTES, CLAIMS, PART_BYTES, RECORD_BYTES, SLOT_BYTES,
+};
+
+const DISKS: u8 = 5;
+
+/// Numbers on the edges of the rules.
+const EDGES: [u32; 24] = [
+    0,
+    1,
+    2,
+    3,
+    6,
+    7,
+    8,
+    9,
+    10,
+    255,
+    256,
+    299,
+    300,
+    500,
+    3_600,
+    999_999,
+    1_000_000,
+    1_000_000_000,
+    1_000_000_001,
+    2_000_000_000,
+    2_000_000_001,
+    0x8000_0000,
+    0xc465_3600, // -1,000,000,000
+    0xffff_ffff,
+];
+
+/// Random calls on five disks, most of them well formed, with limits and values that meet; now and then a word of a part
+/// is changed on both boards before a call, and put back after it where the disk would only be refused from then on.
+/// Gives how often each code came.
+pub fn on_random_calls(calls: u64, seed: u64) -> Result<[u64; 22], String> {
+    let mut chance = Chance::new(seed);
+    let mut both = Both::new(&vec![0; BOARD_BYTES]);
+    let mut now = 0;
+    let mut codes = [0; 22];
+    for n in 0..calls {
+        // a disk's tickets and figures run out: every so often all begins anew
+        if n % 5_000 == 0 {
+            both = Both::new(&vec![0; BOARD_BYTES]);
+            now = chance.one(&[0, 1_000, 4_294_960_000]);
+        }
+        now = u32::saturating_add(now, chance.one(&[0, 0, 0, 0, 1, 1, 40]));
+        let disk = chance.below(DISKS.into()) as u8;
+        let call = any_call(&mut chance, &both.boards[0], disk, now);
+        let board_bytes = if chance.below(500) == 0 { chance.below(BOARD_BYTES as u64) as usize } else { BOARD_BYTES };
+        if chance.below(8) != 0 {
+            codes[both.call(&call, board_bytes)? as usize] += 1;
+            continue;
+        }
+        let at = part_at(disk.into());
+        let before = both.boards[0][at..at + PART_BYTES].to_vec();
+        let (place, new) = any_damage(&mut chance, &both.boards[0], at);
+        for board in &mut both.boards {
+            put_word(board, at + place, new);
+        }
+        let code = both.call(&call, board_bytes)?;
+        codes[code as usize] += 1;
+        let spent = word_at(&both.boards[0], at + part::NEXT_TICKET) > 900_000;
+        if code > 3 || spent || chance.below(2) == 0 {
+            for board in &mut both.boards {
+                board[at..at + PART_BYTES].copy_from_slice(&before);
+            }
+        }
+    }
+    Ok(codes)
+}
+
+/// A word of a part, mostly of the head or of slots that hold claims.
+fn any_place(chance: &mut Chance) -> usize {
+    match chance.below(4) {
+        0 => 4 * chance.below(16) as usize,
+        1 => 4 * chance.below(192) as usize,
+        of => {
+            let from = if of == 2 { part::ACTIVE } else { part::WAITING };
+            from + SLOT_BYTES * chance.below(4) as usize + 4 * chance.below(11) as usize
+        }
+    }
+}
+
+/// A word of the part at a place, and what to make of it.
+fn any_damage(chance: &mut Chance, board: &[u8], part_at: usize) -> (usize, u32) {
+    let word = |at: usize| word_at(board, part_at + at);
+    let place = any_place(chance);
+    let new = match chance.below(8) {
+        0 => word(place).wrapping_add(1),
+        1 => word(place).wrapping_sub(1),
+        2 => word(place) ^ 1 << chance.below(32),
+        3 => word(any_place(chance)),
+        4 => word(part::CLOCK).wrapping_add(chance.below(3) as u32).wrapping_sub(1),
+        5 => {
+            // as many tickets as there are claims, or one more, or none left
+            let claims = word(part::ACTIVE_COUNT).wrapping_add(word(part::WAITING_COUNT));
+            return (part::NEXT_TICKET, chance.one(&[1, claims, claims.wrapping_add(1), 1_000_000]));
+        }
+        6 => {
+            // as much promised as the active adds leave, or one more
+            let slots = (0..CLAIMS).map(|k| part::ACTIVE + SLOT_BYTES * k);
+            let adds = slots.filter(|at| word(at + slot::METHOD) == 1);
+            let sum = adds.fold(0, |sum, at| u32::wrapping_add(sum, (word(at + slot::VALUE) as i32).unsigned_abs()));
+            let left = 1_000_000_000u32.wrapping_sub(sum).wrapping_add(chance.below(2) as u32);
+            return (part::PROMISED, chance.one(&[left, left.wrapping_neg()]));
+        }
+        _ => chance.one(&EDGES),
+    };
+    (place, new)
+}
+
+/// A ticket that is held on a disk, or was, or will be.
+fn any_ticket(chance: &mut Chance, board: &[u8], at: usize) -> u32 {
+    let slots = if chance.below(3) == 0 { part::WAITING } else { part::ACTIVE };
+    match chance.below(16) {
+        0 => chance.one(&EDGES),
+        1 => chance.below(u64::from(word_at(board, at + part::NEXT_TICKET)) + 2) as u32,
+        _ => word_at(board, at + slots + SLOT_BYTES * chance.below(6) as usize + slot::TICKET),
+    }
+}
+
+fn any_call(chance: &mut Chance, board: &[u8], disk: u8, now: u32) -> Call {
+    let at = part_at(disk.into());
+    let open = board[usize::from(disk / 8)] >> (disk % 8) & 1 == 1;
+    let kind = if open {
+        if chance.below(50) == 0 {
+            1
+        } else {
+            chance.one(&[2, 2, 2, 3, 3])
+        }
+    } else {
+        chance.one(&[1, 1, 1, 2, 3])
+    };
+    let mut record = [0; RECORD_BYTES];
+    record[..4].copy_from_slice(&[0x52, 0x42, kind, disk]);
+    put_word(
+        &mut record,
+        8,
+        if chance.below(40) == 0 { chance.one(&[0, now.saturating_sub(1), now.saturating_add(5)]) } else { now },
+    );
+    match kind {
+        1 => {
+            put_word(&mut record, 16, chance.one(&[10, 100, 1_000, 2_000_000_000]));
+            put_word(&mut record, 20, chance.one(&[10, 100, 1_000, 2_000_000_000]));
+        }
+        2 => claim(chance, &mut record, now),
+        _ => put_word(&mut record, 12, any_ticket(chance, board, at)),
+    }
+    match chance.below(24) {
+        0 => put_word(&mut record, 4 * chance.below(3) as usize + 12, chance.one(&EDGES)),
+        1 => record[chance.one(&[0, 1, 2, 3, 4, 5, 6, 7, 12, 16, 20, 23])] = chance.one(&[0, 1, 2, 3, 7, 63, 64, 255]),
+        _ => {}
+    }
+    let mut call = Call::of(record);
+    if chance.below(200) == 0 {
+        call.record_bytes = chance.below(25) as usize;
+    }
+    if chance.below(200) == 0 {
+        call.answer_bytes = chance.below(145) as usize;
+    }
+    call
+}
+
+/// The fields of a claim.
+fn claim(chance: &mut Chance, record: &mut [u8; RECORD_BYTES], now: u32) {
+    let method = chance.one(&[0, 0, 1, 1, 2, 3, 4, 4, 5, 5, 6]);
+    record[4] = method;
+    record[5] = chance.one(&[0, 4, 4, 5, 5, 255]);
+    if method >= 4 {
+        record[6] = u8::from(chance.below(4) == 0);
+        put_word(record, 20, chance.one(&[0, 5, 100, 500, 5_000, 2_000_000_000]));
+        return;
+    }
+    let value = match (method, chance.below(10)) {
+        (3, _) => chance.below(256) as i32,
+        (_, 0) => chance.one(&[1_000_000_000, -1_000_000_000, 999_999_999]),
+        (1, 1..=4) => chance.one(&[500_000_000, -500_000_000, 499_999_999]),
+        _ => chance.below(201) as i32 - 100,
+    };
+    put_word(record, 12, now.saturating_sub(chance.one(&[0, 0, 1, 299, 300])));
+    put_word(record, 16, value as u32);
+    put_word(record, 20, if method == 3 { 0 } else { chance.one(&[0, 0, 1, 5, 10]) });
+}
