@@ -1,12 +1,46 @@
 // The lines of the output: the situation and what was asked, then code, ticket, told and amount.
 
-use crate::rows::CLAIM;
+ghost use mathlib.Core.Path.{_≡_};
+ghost use Prim.Native.Nat.{_+_, _≤_};
+ghost use lib.ListN.{length};
 use crate::rows::OPEN;
+use crate::rows::RELEASE;
+use num::signed::signed_at;
 use num::signed::size;
-use rules::calls::Answered;
-use rules::disk::Item;
+use num::word::word_at;
 
-pub fn print_name(situation: u32) {
+// The codes above this one are refusals.
+const OPENED: u32 = 3;
+
+const ITEM_BYTES: usize = 16;
+
+// A refusal has its number; an accepted call its own item, and the grants of its pass on lines of their own.
+pub fn print_answer(situation: u32, kind: u32, answer: &[u8])
+    requires { ⌜ length (now answer) ≡ 144 ⌝ }
+{
+    print_name(situation);
+    print_kind(kind);
+    let code = word_at(answer, 0);
+    if OPENED < code {
+        io::write_all(1, b"refused ");
+        io::print_decimal(1, code as u64);
+        io::write_all(1, b"\n");
+        return;
+    }
+    print_item(answer, 0);
+    print_grants(situation, answer);
+}
+
+// What the active claim of that ticket was told, and its amount.
+pub fn print_shown(situation: u32, ticket: u32, told: i32, amount: u32) {
+    print_name(situation);
+    io::write_all(1, b"shows ");
+    io::print_decimal(1, ticket as u64);
+    io::write_all(1, b" ");
+    print_figures(told, amount);
+}
+
+fn print_name(situation: u32) {
     if situation == 0 {
         io::write_all(1, b"run ");
         return;
@@ -16,18 +50,56 @@ pub fn print_name(situation: u32) {
     io::write_all(1, b" ");
 }
 
-pub fn print_kind(kind: u32) {
+fn print_kind(kind: u32) {
     match kind {
         OPEN => {
             io::write_all(1, b"open ");
         }
-        CLAIM => {
-            io::write_all(1, b"claim ");
-        }
-        _ => {
+        RELEASE => {
             io::write_all(1, b"release ");
         }
+        _ => {
+            io::write_all(1, b"claim ");
+        }
     }
+}
+
+// The grants of the pass: an unused item has no ticket.
+fn print_grants(situation: u32, answer: &[u8])
+    requires { ⌜ length (now answer) ≡ 144 ⌝ }
+{
+    for i in 1..9 {
+        let at = ITEM_BYTES * i;
+        if word_at(answer, at + 4) != 0 {
+            print_grant(situation, answer, at);
+        }
+    }
+}
+
+fn print_grant(situation: u32, answer: &[u8], at: usize)
+    requires { ⌜ at + 16 ≤ length (now answer) ⌝ }
+{
+    print_name(situation);
+    io::write_all(1, b"+ ");
+    print_item(answer, at);
+}
+
+fn print_item(answer: &[u8], at: usize)
+    requires { ⌜ at + 16 ≤ length (now answer) ⌝ }
+{
+    io::print_decimal(1, word_at(answer, at) as u64);
+    io::write_all(1, b" ");
+    io::print_decimal(1, word_at(answer, at + 4) as u64);
+    io::write_all(1, b" ");
+    print_figures(signed_at(answer, at + 8), word_at(answer, at + 12));
+}
+
+// Two numbers, the first signed, that end a line.
+fn print_figures(told: i32, amount: u32) {
+    print_signed(told);
+    io::write_all(1, b" ");
+    io::print_decimal(1, amount as u64);
+    io::write_all(1, b"\n");
 }
 
 fn print_signed(z: i32) {
@@ -35,48 +107,4 @@ fn print_signed(z: i32) {
         io::write_all(1, b"-");
     }
     io::print_decimal(1, size(z) as u64);
-}
-
-// Two numbers, the first signed, that end a line.
-pub fn print_figures(told: i32, amount: u32) {
-    print_signed(told);
-    io::write_all(1, b" ");
-    io::print_decimal(1, amount as u64);
-    io::write_all(1, b"\n");
-}
-
-fn print_item(i: Item) {
-    io::print_decimal(1, i.code as u64);
-    io::write_all(1, b" ");
-    io::print_decimal(1, i.ticket as u64);
-    io::write_all(1, b" ");
-    print_figures(i.told, i.amount);
-}
-
-// A refusal has its number; an accepted call its own item, and the grants of its pass on lines of their own.
-pub fn print_answer(situation: u32, a: Answered) {
-    if a.refusal != 0 {
-        io::write_all(1, b"refused ");
-        io::print_decimal(1, a.refusal as u64);
-        io::write_all(1, b"\n");
-        return;
-    }
-    let own = a.own;
-    let items = a.items;
-    print_item(own);
-    print_grants(situation, items, a.count as usize);
-}
-
-fn print_grants(situation: u32, items: [Item; 8], n: usize) {
-    for i in 0..8 {
-        if i < n {
-            print_grant(situation, items[i]);
-        }
-    }
-}
-
-fn print_grant(situation: u32, i: Item) {
-    print_name(situation);
-    io::write_all(1, b"+ ");
-    print_item(i);
 }

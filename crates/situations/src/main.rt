@@ -1,153 +1,98 @@
-// 01's situations K1 to K13 and its printed run through the code: each row of a table is a request, and each answer
-// is a line of the output, which stdout has as 01 says it. (K13's closed disk belongs to the board.)
+// 01's situations K1 to K13 and its printed run through the desk: each row of a table is a record, each record a call of
+// step, and the lines of the output are printed from its answer buffer; stdout has them as 01 says them.
 
 mod lines;
+mod record;
 mod rows;
 
-ghost use Rattle.law.specs.Sound.{Sound};
-ghost use Rattle.law.specs.DiskType.{diskTable};
-ghost use Rattle.rules.specs.Disks.{diskOf, Good};
+ghost use mathlib.Core.Path.{_≡_};
+ghost use Prim.Native.Nat.{_<_, _≤_};
+ghost use lib.ListN.{length};
+ghost use Rattle.situations.specs.Rows.{afterRow};
 use crate::lines::print_answer;
-use crate::lines::print_figures;
-use crate::lines::print_kind;
-use crate::lines::print_name;
+use crate::lines::print_shown;
+use crate::record::DISK;
+use crate::record::record_of;
 use crate::rows::COUNT;
 use crate::rows::OPEN;
-use crate::rows::RELEASE;
+use crate::rows::ROWS;
 use crate::rows::SHOW;
-use crate::rows::row;
-use claims::find;
-use num::signed::to_signed;
-use rules::calls::Answered;
-use rules::calls::claim;
-use rules::calls::open;
-use rules::calls::refused;
-use rules::calls::release;
-use rules::disk::Asked;
-use rules::disk::Disk;
+use desk::board::step;
+use part::read::active_at;
 
-const MOST_PRIORITY: u32 = 255;
+const HEAD_BYTES: usize = 64;
 
-const MOST_FLAG: u32 = 1;
+const PART_BYTES: usize = 768;
+
+const BOARD_BYTES: usize = 49216;
+
+const ANSWER_BYTES: usize = 144;
+
+// Where the part of the disk begins and ends.
+const PART_FROM: usize = HEAD_BYTES + PART_BYTES * DISK as usize;
+
+const PART_TO: usize = PART_FROM + PART_BYTES;
 
 fn main() {
-    let mut d = first();
-    let mut situation = 0;
     let mut i: usize = 0;
     while i < COUNT {
-        let q = row(i);
-        situation = numbered(situation, q);
-        d = turn(d, situation, q);
-        i += 1;
+        i = situation_from(i);
     }
 }
 
-// An open begins the situation of its number.
-fn numbered(situation: u32, q: [u32; 8]) -> u32 {
-    if q[0] == OPEN { q[4] } else { situation }
-}
-
-// A disk to begin with.
-fn first() -> Disk
-    ensures { λ r. ⌜ Good r ⌝ }
-    ensures { λ r. ⌜ Sound diskTable (diskOf r) ⌝ }
+// The situation whose open is that row, on an empty board; where the next begins.
+fn situation_from(first: usize) -> usize
+    requires { ⌜ first < 87 ⌝ }
+    ensures { λ r. ⌜ (first < r) × (r ≤ 87) ⌝ }
 {
-    let a = open(0, 0, 0);
-    a.disk
+    let mut board = [0; BOARD_BYTES];
+    let open = row(first);
+    let situation = open[4];
+    turn(&mut board, situation, open);
+    let mut i = first + 1;
+    while i < COUNT {
+        let q = row(i);
+        if q[0] == OPEN {
+            return i;
+        }
+        turn(&mut board, situation, q);
+        i += 1;
+    }
+    i
 }
 
-// The disk after one row, whose answer is printed.
-fn turn(d: Disk, situation: u32, q: [u32; 8]) -> Disk
-    requires { ⌜ Good d ⌝ }
-    requires { ⌜ Sound diskTable (diskOf d) ⌝ }
-    ensures { λ r. ⌜ Good r ⌝ }
-    ensures { λ r. ⌜ Sound diskTable (diskOf r) ⌝ }
+// The row at that place of the table.
+fn row(i: usize) -> [u32; 8]
+    requires { ⌜ i < 87 ⌝ }
+{
+    let rows = ROWS;
+    rows[i]
+}
+
+// One row: its call, whose answer is printed, or what it shows.
+fn turn(board: &mut [u8], situation: u32, q: [u32; 8])
+    requires { ⌜ length (now board) ≡ 49_216 ⌝ }
+    ensures { λ _. ⌜ now (board .exit) ≡ afterRow (now (board .entry)) q ⌝ }
 {
     let kind = q[0];
     if kind == SHOW {
-        show(d, situation, q[1]);
-        return d;
+        show(&board[PART_FROM..PART_TO], situation, q[1]);
+        return;
     }
-    let a = answer(d, q);
-    print_name(situation);
-    print_kind(kind);
-    print_answer(situation, a);
-    a.disk
+    let r = record_of(q);
+    let mut answer = [0; ANSWER_BYTES];
+    step(board, &r, &mut answer);
+    print_answer(situation, kind, &answer);
 }
 
-// The answer to an open, a release or a claim.
-fn answer(d: Disk, q: [u32; 8]) -> Answered
-    requires { ⌜ Good d ⌝ }
-    requires { ⌜ Sound diskTable (diskOf d) ⌝ }
-    ensures { λ r. ⌜ Good (r .disk) ⌝ }
-    ensures { λ r. ⌜ Sound diskTable (diskOf (r .disk)) ⌝ }
+// Prints what the active claim of that ticket was told, and its amount.
+fn show(part: &[u8], situation: u32, ticket: u32)
+    requires { ⌜ length (now part) ≡ 768 ⌝ }
 {
-    let kind = q[0];
-    if kind == OPEN {
-        return begin(d, q[1], q[2], q[3]);
-    }
-    if kind == RELEASE {
-        return release(d, q[1], q[2]);
-    }
-    ask(d, asked(q))
-}
-
-// The claim that a row asks for.
-fn asked(q: [u32; 8]) -> Asked {
-    Asked {
-        now: q[1],
-        method: q[2],
-        priority: q[3],
-        flag: q[4],
-        measured: q[5],
-        value: to_signed(q[6]),
-        error: q[7],
-    }
-}
-
-// A new disk in the place of d, which stays where the open is refused.
-fn begin(d: Disk, now: u32, l0: u32, l1: u32) -> Answered
-    requires { ⌜ Good d ⌝ }
-    requires { ⌜ Sound diskTable (diskOf d) ⌝ }
-    ensures { λ r. ⌜ Good (r .disk) ⌝ }
-    ensures { λ r. ⌜ Sound diskTable (diskOf (r .disk)) ⌝ }
-{
-    let a = open(now, l0, l1);
-    if a.refusal != 0 {
-        return refused(d, a.refusal);
-    }
-    a
-}
-
-// A claim; one whose priority or flag no record holds is refused 10.
-fn ask(d: Disk, q: Asked) -> Answered
-    requires { ⌜ Good d ⌝ }
-    requires { ⌜ Sound diskTable (diskOf d) ⌝ }
-    ensures { λ r. ⌜ Good (r .disk) ⌝ }
-    ensures { λ r. ⌜ Sound diskTable (diskOf (r .disk)) ⌝ }
-{
-    if MOST_PRIORITY < q.priority {
-        return refused(d, 10);
-    }
-    if MOST_FLAG < q.flag {
-        return refused(d, 10);
-    }
-    claim(d, q)
-}
-
-// The told sum and the amount of the active claim of that ticket.
-fn show(d: Disk, situation: u32, ticket: u32)
-    requires { ⌜ Good d ⌝ }
-{
-    let active = d.active;
-    let n = d.actives as usize;
-    let at = find(active, n, ticket);
-    if at < n {
-        let c = active[at];
-        print_name(situation);
-        io::write_all(1, b"shows ");
-        io::print_decimal(1, ticket as u64);
-        io::write_all(1, b" ");
-        print_figures(c.told, c.amount);
+    for i in 0..8 {
+        let c = active_at(part, i);
+        if c.ticket == ticket {
+            print_shown(situation, ticket, c.told, c.amount);
+        }
     }
 }

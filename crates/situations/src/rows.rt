@@ -1,19 +1,20 @@
 // The requests, in a table: 01's situations K1 to K13, each beside its words, and the printed run.
 
-ghost use Prim.Native.Nat.{_<_};
-
-// What a row asks.
+// What a row asks. Each open begins a situation on an empty board.
 //   OPEN: now, limit of used, limit of promised, the situation's number (0: the printed run)
 //   CLAIM: now, method, priority, fresh flag, second of measuring, value, own error or stated limit
 //   RELEASE: now, ticket
+//   CLOSED: a claim on a disk that is closed
 //   SHOW: the ticket of an active claim, whose told sum and amount are shown
-pub const OPEN: u32 = 0;
+pub const OPEN: u32 = 1;
 
-pub const CLAIM: u32 = 1;
+pub const CLAIM: u32 = 2;
 
-pub const RELEASE: u32 = 2;
+pub const RELEASE: u32 = 3;
 
-pub const SHOW: u32 = 3;
+pub const CLOSED: u32 = 4;
+
+pub const SHOW: u32 = 5;
 
 const REPORT_USED: u32 = 0;
 
@@ -30,10 +31,10 @@ const MINUS_300: u32 = 4294966996;
 
 const MINUS_500: u32 = 4294966796;
 
-pub const COUNT: usize = 86;
+pub const COUNT: usize = 87;
 
 // Own errors 0, priorities equal, used and promised limit 1,000 unless said.
-const ROWS: [[u32; 8]; COUNT] = [
+pub const ROWS: [[u32; 8]; COUNT] = [
     // K1 (000's Speed example, in tenths) used limit 10, ReportUsed 100 active: ReportUsed 106, own error 3: granted,
     // amount 9.
     [OPEN, 0, 10, 1000, 1, 0, 0, 0],
@@ -135,6 +136,8 @@ const ROWS: [[u32; 8]; COUNT] = [
     [CLAIM, 0, READ_USED, 5, 0, 0, 0, 0],
     // Eight waiting: the next such claim gets 20.
     [CLAIM, 0, READ_USED, 5, 0, 0, 0, 0],
+    // Closed disk and method 9: 13.
+    [CLOSED, 0, 9, 5, 0, 0, 0, 0],
     // The printed run: open at 100, limits 1,000 and 500; ReportUsed 40,000 own 20 measured 100 at 100; ReadUsed limit
     // 50,000 at 101; ReportUsed 40,600 own 0 measured 102 at 102; release 2 at 103; release 9 at 104; ReadUsed limit 0
     // at 99. All of priority 5, no fresh flag.
@@ -146,11 +149,3 @@ const ROWS: [[u32; 8]; COUNT] = [
     [RELEASE, 104, 9, 0, 0, 0, 0, 0],
     [CLAIM, 99, READ_USED, 5, 0, 0, 0, 0],
 ];
-
-// The request at that place of the table.
-pub fn row(i: usize) -> [u32; 8]
-    requires { ⌜ i < 86 ⌝ }
-{
-    let rows = ROWS;
-    rows[i]
-}

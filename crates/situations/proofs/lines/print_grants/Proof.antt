@@ -1,23 +1,26 @@
--- The place stays within eight.
+-- Each item stands within the 144 bytes.
 use Prim.Native.Nat.{_-_, _≤_}
 use borrow.Author.Needs.{needs}
 use Rattle.situations.proofs.lines.print_grants.Statement.{statement}
 use Rattle.situations.proofs.lines.print_grants.Tie as tie
 
 abbrev Inv-loop : tie.InvT-loop
-Inv-loop situation n items i₀ i = i ≤ 8
+Inv-loop situation answer i₀ i = i ≤ 9
 
 abbrev μ-loop : tie.MeasureT-loop
-μ-loop situation n items i₀ i = 8 - i
+μ-loop situation answer i₀ i = 9 - i
 
 loop-holds : tie.Need-loop-holds Inv-loop μ-loop
 loop-holds c = search needs
 
-mul-print-grant : tie.Need-mul-print-grant Inv-loop μ-loop
-mul-print-grant c = search needs
+mul-at : tie.Need-mul-at Inv-loop μ-loop
+mul-at c = search needs
 
-array-copy-out-print-grant : tie.Need-array-copy-out-print-grant Inv-loop μ-loop
-array-copy-out-print-grant c = search needs
+add-word-at : tie.Need-add-word-at Inv-loop μ-loop
+add-word-at c = search needs
+
+word-at-requires : tie.Need-word-at-requires Inv-loop μ-loop
+word-at-requires c κs = search needs
 
 print-grant-requires : tie.Need-print-grant-requires Inv-loop μ-loop
 print-grant-requires c κs = search needs
@@ -41,8 +44,9 @@ print-grants-spec =
     Inv-loop
     μ-loop
     loop-holds
-    mul-print-grant
-    array-copy-out-print-grant
+    mul-at
+    add-word-at
+    word-at-requires
     print-grant-requires
     add-i
     loop-less

@@ -1,0 +1,2 @@
+-- What is stated of the program.
+pub mod Rows
