@@ -21,13 +21,17 @@ pub fn decodes(s: &[u8]) -> bool
     )
 }
 
-// Whether of eight slots the first `n` hold claims, and the others are zero.
+// Whether of eight slots the first `n` hold claims, and the others are zero. Where none does, as often, the range is one
+// that the compiler knows.
 fn slots_whole(s: &[u8], at: usize, n: u32) -> bool
     requires { ⌜ at + 352 ≤ length (now s) ⌝ }
     ensures { λ r. ⌜ r ≡ slotsWhole (now (s .entry)) at n ⌝ }
 {
     if 8 < n {
         return false;
+    }
+    if n == 0 {
+        return zero_between(s, at, at + 352);
     }
     let k = n as usize;
     both(spare_zero(s, at, k), zero_between(s, at + 44 * k, at + 352))
