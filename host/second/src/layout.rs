@@ -56,7 +56,7 @@ fn slot(part: &[u8], at: usize, active: bool) -> Option<Slot> {
     // "36, 40: zero"
     let end_zero = word(part, at + 36) == 0 && word(part, at + 40) == 0;
     // told and amount: "an active reading's; else 0"
-    let reading = Method::of_number(slot.method).is_some_and(Method::is_reading);
+    let reading = Method::of_number(slot.method).map_or(false, Method::is_reading);
     let own_zero = (active && reading) || (slot.told == 0 && slot.amount == 0);
     (end_zero && own_zero).then_some(slot)
 }
@@ -185,8 +185,8 @@ fn place(at: usize) -> String {
         "zero word",
     ];
     let (list, start) = match at {
-        0..HEAD => return HEAD_NAMES[at / 4].to_string(),
-        HEAD..WAITING => ("active", ACTIVE),
+        _ if at < HEAD => return HEAD_NAMES[at / 4].to_string(),
+        _ if at < WAITING => ("active", ACTIVE),
         _ => ("waiting", WAITING),
     };
     let (k, inside) = ((at - start) / SLOT, (at - start) % SLOT);
