@@ -32,12 +32,16 @@ pub struct Figures {
     pub waiting: Vec<Slot>,
 }
 
+fn four(part: &[u8], at: usize) -> [u8; 4] {
+    part[at..at + 4].try_into().expect("four bytes")
+}
+
 fn word(part: &[u8], at: usize) -> i64 {
-    i64::from(u32::from_le_bytes([0, 1, 2, 3].map(|k| part[at + k])))
+    i64::from(u32::from_le_bytes(four(part, at)))
 }
 
 fn signed(part: &[u8], at: usize) -> i64 {
-    i64::from(i32::from_le_bytes([0, 1, 2, 3].map(|k| part[at + k])))
+    i64::from(i32::from_le_bytes(four(part, at)))
 }
 
 /// "Slot, offsets in the slot"; None if it doesn't decode.

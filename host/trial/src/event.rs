@@ -33,6 +33,7 @@ impl Call {
         Call { board_len: board_len as u32, answer_len: answer_len as u16, ..self }
     }
 
+    #[inline]
     pub fn record(&self) -> &[u8] {
         &self.bytes[..usize::from(self.len)]
     }

@@ -1,4 +1,4 @@
-//! Calls that touch a byte that was not lent to them: the fuzz run has to see each of them.
+//! Calls that touch a byte that was not lent to them, or not to be written: the fuzz run has to see each of them.
 
 use crate::fuzz::{step, Raw};
 
@@ -7,6 +7,7 @@ pub const OVERRUNS: &[(&str, Raw)] = &[
     ("reads-before-board", reads_before_board),
     ("writes-behind-answer", writes_behind_answer),
     ("writes-before-answer", writes_before_answer),
+    ("writes-record", writes_record),
 ];
 
 unsafe extern "C" fn reads_behind_record(b: *mut u8, bl: usize, r: *const u8, rl: usize, a: *mut u8, al: usize) -> u32 {
@@ -43,4 +44,13 @@ unsafe extern "C" fn writes_before_answer(
 ) -> u32 {
     a.sub(1).write_volatile(0);
     step(b, bl, r, rl, a, al)
+}
+
+unsafe extern "C" fn writes_record(b: *mut u8, bl: usize, r: *const u8, rl: usize, a: *mut u8, al: usize) -> u32 {
+    let code = step(b, bl, r, rl, a, al);
+    if rl > 0 {
+        let last = r.add(rl - 1) as *mut u8;
+        last.write_volatile(!last.read_volatile());
+    }
+    code
 }

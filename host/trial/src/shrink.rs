@@ -1,22 +1,27 @@
 //! A failing list of events made as short as it goes: whatever can be left out, with the list still failing, is left out.
 
 use crate::beside::{Beside, Step};
-use crate::event::Event;
+use crate::event::{Event, Why};
 use crate::simpler::{at_once, simplify, CHANGES};
 use crate::trial::{unpanicked, Failure};
+use second::encode;
 
-/// Pairs are looked for up to here.
-const LONGEST_FOR_PAIRS: usize = 64;
+/// Pairs are looked for in lists up to here.
+const LONGEST_FOR_PAIRS: usize = 24;
+/// A list longer than this is better told by the part as it stands before its last event.
+const LONG: usize = 12;
 
-/// The list up to the event that fails when it is run from the empty board, the whole board compared at every call.
+/// The list up to the event that fails when it is run from the empty board. The whole board is compared at its end, and at
+/// every call of a list that is short already.
 fn failing<S: Step>(desk: &dyn Fn() -> S, events: &[Event]) -> Option<Failure> {
-    let mut beside = Beside::new(desk(), 1);
+    let whole_every = if events.len() > 2 * LONGEST_FOR_PAIRS { u64::MAX } else { 1 };
+    let mut beside = Beside::new(desk(), whole_every);
     for (k, event) in events.iter().enumerate() {
         if let Err(wrong) = unpanicked(|| beside.apply(event)) {
             return Some(Failure { events: events[..=k].to_vec(), wrong });
         }
     }
-    None
+    beside.compare_whole(None).err().map(|wrong| Failure { events: events.to_vec(), wrong })
 }
 
 /// The shortest list found that still fails. `desk` makes the desk on trial anew for every try.
@@ -38,16 +43,37 @@ pub fn shrink<S: Step>(desk: &dyn Fn() -> S, failure: Failure) -> Failure {
         drop_pieces(desk, &mut best, piece);
         piece /= 2;
     }
-    let mut shorter = true;
-    while shorter {
-        let before = best.events.len();
-        drop_pieces(desk, &mut best, 1);
-        drop_pairs(desk, &mut best);
-        simplify_all(desk, &mut best);
-        shorter = best.events.len() < before;
+    shorten(desk, &mut best);
+    if best.events.len() > LONG {
+        from_saved_part(desk, &mut best);
     }
     std::panic::set_hook(hook);
     best
+}
+
+/// Leaves out and simplifies single events until nothing more goes.
+fn shorten<S: Step>(desk: &dyn Fn() -> S, best: &mut Failure) {
+    let mut shorter = true;
+    while shorter {
+        let before = best.events.len();
+        drop_pieces(desk, best, 1);
+        drop_pairs(desk, best);
+        simplify_all(desk, best);
+        shorter = best.events.len() < before;
+    }
+}
+
+/// In the place of a long way to the last event, the part of its disk as it stands before it.
+fn from_saved_part<S: Step>(desk: &dyn Fn() -> S, best: &mut Failure) {
+    let (last, way) = best.events.split_last().expect("a failing list has an event");
+    let mut beside = Beside::new(desk(), 1);
+    way.iter().for_each(|event| beside.apply(event).expect("only the last event fails"));
+    if let Some((disk, part)) = last.disk().and_then(|disk| Some((disk, beside.second.disk(disk).map(encode)?))) {
+        let events = vec![Event::put(disk, Why::Shorter, part), last.clone()];
+        if keep(desk, best, events) {
+            shorten(desk, best);
+        }
+    }
 }
 
 /// Takes the list if it fails too.
@@ -81,7 +107,7 @@ fn drop_pieces<S: Step>(desk: &dyn Fn() -> S, best: &mut Failure, piece: usize) 
 /// Leaves out two events that are needed one for the other: a claim and its release, what bars and what is barred.
 fn drop_pairs<S: Step>(desk: &dyn Fn() -> S, best: &mut Failure) {
     let mut first = 0;
-    while first < best.events.len().min(LONGEST_FOR_PAIRS) {
+    while first < best.events.len() && best.events.len() <= LONGEST_FOR_PAIRS {
         let before = best.events.len();
         for second in (first + 1..best.events.len()).rev() {
             let mut events = best.events.clone();

@@ -145,7 +145,7 @@ impl Traffic {
 }
 
 fn mood(chance: &mut Chance) -> Mood {
-    Mood { methods: chance.one_of(MIXES), held: chance.one_of(&[0, 1, 2, 2, 3, 3, 4, 5, 6, 8, 11, 16]) }
+    Mood { methods: chance.one_of(MIXES), held: chance.one_of(&[0, 1, 1, 2, 2, 3, 3, 4, 5, 7, 10, 16]) }
 }
 
 fn one_ticket(chance: &mut Chance, claims: &[Claim]) -> i64 {

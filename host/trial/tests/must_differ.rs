@@ -16,13 +16,13 @@ fn seen(wrong: Wrong, seed: u64) -> Failure {
     shrink(&|| WrongDesk(wrong), failure)
 }
 
-/// To see 20 in the place of a wait takes most: an open, eight active, eight that wait, and one more.
+/// From the empty board most take a handful of events; to see 20 in the place of a wait, an open and nine claims.
 #[test]
 fn every_wrong_desk_is_seen_and_the_list_is_short() {
     for (name, wrong) in WRONGS {
         for seed in 1..=4 {
             let failure = seen(*wrong, seed);
-            let short = if *name == "code-only" { 18 } else { 6 };
+            let short = if *name == "code-only" { 12 } else { 6 };
             assert!(failure.events.len() <= short, "{name}: {} events, {}", failure.events.len(), failure.wrong);
             assert!(!failure.wrong.starts_with("panic"), "{name}: {}", failure.wrong);
         }
@@ -39,7 +39,8 @@ fn every_call_that_leaves_its_buffers_is_seen() {
         let said = run(&["--fuzz", "1000", "--seed", "1", "--wrong", name]);
         assert_eq!(said.status.code(), Some(1), "{name}");
         let text = String::from_utf8([said.stdout, said.stderr].concat()).expect("text");
-        assert!(text.contains("outside of the buffers") || text.contains("what is beside it"), "{name}: {text}");
+        let seen = ["outside of the buffers", "what is beside it", "the record"];
+        assert!(seen.iter().any(|part| text.contains(part)), "{name}: {text}");
     }
     let read = run(&["--fuzz", "1000", "--seed", "1", "--wrong", "reads-behind-record"]);
     assert!(String::from_utf8_lossy(&read.stderr).contains("outside of the buffers"), "no guard page: {read:?}");
