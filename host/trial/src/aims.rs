@@ -1,9 +1,9 @@
 //! Claims aimed at an edge: on it, or one past it.
 
 use crate::chance::Chance;
-use crate::claims::{method_of, LAST_SECOND};
+use crate::claims::method_of;
 use crate::edges::{Aim, At};
-use crate::odd::BILLION;
+use crate::odd::{BILLION, LAST_SECOND};
 use second::record::Fields;
 use second::{entry, Action, Claim, Disk, Entry, Method};
 

@@ -73,7 +73,7 @@ impl<S: Step> Beside<S> {
         match event {
             Event::Call(call) => return self.call(call),
             Event::Put { disk, why, part } => self.put(*disk, *why, part),
-            Event::Garbage(seed) => self.garbage(*seed),
+            Event::Garbage { seed, open } => self.garbage(*seed, *open),
         }
         Ok(())
     }
@@ -190,11 +190,9 @@ impl<S: Step> Beside<S> {
         self.second.read_disk(&self.board[..BOARD], disk);
     }
 
-    fn garbage(&mut self, seed: u64) {
-        let mut chance = Chance::new(seed);
-        chance.fill(&mut self.board);
-        // one board in four has closed disks only, over bytes by chance
-        if chance.one_in(4) {
+    fn garbage(&mut self, seed: u64, open: bool) {
+        Chance::new(seed).fill(&mut self.board);
+        if !open {
             self.board[..8].fill(0);
         }
         self.expected.copy_from_slice(&self.board);

@@ -5,11 +5,9 @@ use crate::aims::aimed;
 use crate::chance::Chance;
 use crate::edges::{Aim, At};
 use crate::event::Call;
-use crate::odd::BILLION;
+use crate::odd::{BILLION, LAST_SECOND};
 use second::record::{self, Fields};
 use second::{Action, Disk, Method};
-
-pub const LAST_SECOND: i64 = u32::MAX as i64;
 
 /// A second from the disk's clock on.
 pub fn now(chance: &mut Chance, disk: &Disk) -> i64 {

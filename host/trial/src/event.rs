@@ -90,8 +90,11 @@ pub enum Event {
         why: Why,
         part: Box<[u8; PART]>,
     },
-    /// The whole board, written with bytes by chance from a seed.
-    Garbage(u64),
+    /// The whole board, written with bytes by chance from a seed; the open bits too, or all disks closed.
+    Garbage {
+        seed: u64,
+        open: bool,
+    },
 }
 
 impl Event {
@@ -104,7 +107,7 @@ impl Event {
         match self {
             Event::Call(call) => call.disk(),
             Event::Put { disk, .. } => Some(*disk),
-            Event::Garbage(_) => None,
+            Event::Garbage { .. } => None,
         }
     }
 }

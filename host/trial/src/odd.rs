@@ -4,7 +4,9 @@ use crate::chance::Chance;
 use second::{entry, Action, Attribute, Claim, Disk, Entry, Method};
 
 pub const BILLION: i64 = 1_000_000_000;
-const LAST_SECOND: i64 = u32::MAX as i64;
+pub const LAST_SECOND: i64 = u32::MAX as i64;
+/// How many claims are active, and how many wait.
+const COUNTS: &[i64] = &[0, 1, 3, 7, 8, 8];
 
 /// A number from 0 to most, ends preferred.
 pub fn up_to(chance: &mut Chance, most: i64) -> i64 {
@@ -35,10 +37,12 @@ fn second_to(chance: &mut Chance, last: i64) -> i64 {
     (last - before).max(0)
 }
 
+/// The limit of used or promised.
 pub fn limit(chance: &mut Chance) -> i64 {
     chance.one_of(&[0, 1, 10, 30, 60, 1_000, 1_000, BILLION, 2 * BILLION - 1, 2 * BILLION])
 }
 
+/// A second, both ends of time preferred.
 pub fn clock(chance: &mut Chance) -> i64 {
     match chance.below(8) {
         0 => 0,
@@ -49,24 +53,17 @@ pub fn clock(chance: &mut Chance) -> i64 {
     }
 }
 
+/// A sound disk.
 pub fn disk(chance: &mut Chance) -> Disk {
     let clock = clock(chance);
-    let mut attribute = |most: i64, limit: i64| Attribute {
-        value: if most == 255 { up_to(chance, 255) } else { within(chance, most) },
-        stamp: second_to(chance, clock),
-        amount: up_to(chance, limit),
-        limit,
-    };
-    let attributes = [attribute(BILLION, 0), attribute(BILLION, 0), attribute(255, 0)];
-    let mut disk = Disk { clock, next_ticket: 1, attributes, active: Vec::new(), waiting: Vec::new() };
-    for k in 0..2 {
-        disk.attributes[k].limit = limit(chance);
-        disk.attributes[k].amount = up_to(chance, disk.attributes[k].limit);
-    }
-    let counts = [0, 1, 3, 7, 8, 8].map(|n: usize| n);
-    let (active, waiting) = (chance.one_of(&counts), chance.one_of(&counts));
-    let least = (active + waiting + 1) as i64;
-    disk.next_ticket = chance.one_of(&[least, least + 1, 1_000, 999_998, 999_999, 1_000_000]);
+    let used = attribute(chance, clock);
+    let promised = attribute(chance, clock);
+    let state = Attribute { value: up_to(chance, 255), stamp: second_to(chance, clock), amount: 0, limit: 0 };
+    let (active, waiting) = (chance.one_of(COUNTS), chance.one_of(COUNTS));
+    let least = active + waiting + 1;
+    let next_ticket = chance.one_of(&[least, least + 1, 1_000, 999_998, 999_999, 1_000_000]);
+    let attributes = [used, promised, state];
+    let mut disk = Disk { clock, next_ticket, attributes, active: Vec::new(), waiting: Vec::new() };
     for _ in 0..active {
         let claim = active_claim(chance, &disk);
         disk.active.push(claim);
@@ -76,8 +73,14 @@ pub fn disk(chance: &mut Chance) -> Disk {
         let claim = claim(chance, &disk, method);
         disk.waiting.push(claim);
     }
-    disk.waiting.sort_by_key(|c| (-c.priority, c.ticket));
+    disk.waiting.sort_by_key(|claim| (-claim.priority, claim.ticket));
     disk
+}
+
+/// Used or promised.
+fn attribute(chance: &mut Chance, clock: i64) -> Attribute {
+    let limit = limit(chance);
+    Attribute { value: within(chance, BILLION), stamp: second_to(chance, clock), amount: up_to(chance, limit), limit }
 }
 
 fn any_method(chance: &mut Chance) -> Method {

@@ -51,10 +51,11 @@ impl<S: Step> Trial<S> {
     fn round(&mut self, calls: u64, events: &mut Vec<Event>) -> Result<(), String> {
         self.beside.clear();
         let mut traffic = Traffic::new(self.chance.word());
-        let mut length = ROUND;
-        if self.chance.one_in(4) {
-            length = ROUND / 16;
-            events.push(Event::Garbage(self.chance.word()));
+        // open disks that are not sound say little: such rounds are short
+        let (garbage, open) = self.chance.one_of(&[(false, false), (false, false), (true, false), (true, true)]);
+        let length = if open { ROUND / 16 } else { ROUND };
+        if garbage {
+            events.push(Event::Garbage { seed: self.chance.word(), open });
             self.beside.apply(&events[0])?;
         }
         let last = calls.min(self.beside.counts.calls + length);

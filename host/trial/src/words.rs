@@ -14,7 +14,7 @@ pub fn print(events: &[Event]) {
         match event {
             Event::Call(call) => println!("      {}", hex(call.record())),
             Event::Put { part, .. } => print_part(part),
-            Event::Garbage(_) => {}
+            Event::Garbage { .. } => {}
         }
     }
 }
@@ -43,7 +43,10 @@ fn words(event: &Event) -> String {
             };
             format!("disk {disk} put from outside, {what}{state}; its words that are not zero:")
         }
-        Event::Garbage(seed) => format!("bytes by chance on the whole board, from seed {seed}"),
+        Event::Garbage { seed, open } => {
+            let closed = if *open { "" } else { ", all disks closed" };
+            format!("bytes by chance on the whole board, from seed {seed}{closed}")
+        }
     }
 }
 

@@ -87,3 +87,13 @@ fn the_watch_is_on() {
         assert_eq!(beside.apply(&release), Ok(()));
     }
 }
+
+/// A run that saw nothing is told so, thing by thing: 17 codes, 9 passes, 19 other counts, the clauses, damages and edges.
+#[test]
+fn what_was_not_seen_is_named() {
+    let missing = trial::counts::Counts::new().print();
+    assert!(missing.len() > 17 + 9 + 19 + 1 + 40 + 20, "{missing:?}");
+    for name in ["14 refused", "passes that grant 8", "11 of 11 clauses", "entry N among the active", "method 6"] {
+        assert!(missing.iter().any(|text| text.contains(name)), "{name}: {missing:?}");
+    }
+}
