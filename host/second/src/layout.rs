@@ -32,12 +32,16 @@ pub struct Figures {
     pub waiting: Vec<Slot>,
 }
 
+fn four(part: &[u8], at: usize) -> [u8; 4] {
+    part[at..at + 4].try_into().expect("four bytes")
+}
+
 fn word(part: &[u8], at: usize) -> i64 {
-    i64::from(u32::from_le_bytes([0, 1, 2, 3].map(|k| part[at + k])))
+    i64::from(u32::from_le_bytes(four(part, at)))
 }
 
 fn signed(part: &[u8], at: usize) -> i64 {
-    i64::from(i32::from_le_bytes([0, 1, 2, 3].map(|k| part[at + k])))
+    i64::from(i32::from_le_bytes(four(part, at)))
 }
 
 /// "Slot, offsets in the slot"; None if it doesn't decode.
@@ -56,7 +60,7 @@ fn slot(part: &[u8], at: usize, active: bool) -> Option<Slot> {
     // "36, 40: zero"
     let end_zero = word(part, at + 36) == 0 && word(part, at + 40) == 0;
     // told and amount: "an active reading's; else 0"
-    let reading = Method::of_number(slot.method).is_some_and(Method::is_reading);
+    let reading = Method::of_number(slot.method).map_or(false, Method::is_reading);
     let own_zero = (active && reading) || (slot.told == 0 && slot.amount == 0);
     (end_zero && own_zero).then_some(slot)
 }
@@ -185,8 +189,8 @@ fn place(at: usize) -> String {
         "zero word",
     ];
     let (list, start) = match at {
-        0..HEAD => return HEAD_NAMES[at / 4].to_string(),
-        HEAD..WAITING => ("active", ACTIVE),
+        _ if at < HEAD => return HEAD_NAMES[at / 4].to_string(),
+        _ if at < WAITING => ("active", ACTIVE),
         _ => ("waiting", WAITING),
     };
     let (k, inside) = ((at - start) / SLOT, (at - start) % SLOT);

@@ -40,7 +40,7 @@ pub enum Kind {
 /// an unused byte or byte 7 not zero".
 pub fn read(record: &[u8]) -> Option<Request> {
     let bytes: &[u8; RECORD] = record.try_into().ok()?;
-    let word = |at: usize| u32::from_le_bytes([0, 1, 2, 3].map(|k| bytes[at + k]));
+    let word = |at: usize| u32::from_le_bytes(bytes[at..at + 4].try_into().expect("four bytes"));
     let unsigned = |at: usize| i64::from(word(at));
     let zero = |from: usize, to: usize| bytes[from..=to].iter().all(|&byte| byte == 0);
     if bytes[0..2] != MARK || bytes[7] != 0 {

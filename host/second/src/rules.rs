@@ -91,9 +91,7 @@ pub fn claim(disk: &mut Disk, now: i64, asked: Asked) -> Result<Vec<Item>, Refus
     if now < disk.clock {
         return Err(Refusal::BelowClock);
     }
-    let Some(method) = Method::of_number(asked.method) else {
-        return Err(Refusal::MethodAbove6);
-    };
+    let method = Method::of_number(asked.method).ok_or(Refusal::MethodAbove6)?;
     let claim = Claim {
         // "a granted or waiting claim takes the next one"
         ticket: disk.next_ticket,

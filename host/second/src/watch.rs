@@ -89,12 +89,11 @@ impl Watch {
             Outcome::Refused(_) => &[],
             Outcome::Accepted(items) => items,
         };
-        let Some(after) = desk.disk(disk) else {
+        let after = match desk.disk(disk) {
+            Some(after) => after,
             // Closed or not sound: only a refusal can come of it.
-            return match items {
-                [] => Ok(()),
-                _ => Err(format!("disk {disk}: accepted, yet not open and sound")),
-            };
+            None if items.is_empty() => return Ok(()),
+            None => return Err(format!("disk {disk}: accepted, yet not open and sound")),
         };
         let told_of = |text: String| format!("disk {disk}: {text}");
         self.keep_books(after, disk, items).map_err(told_of)?;
@@ -195,8 +194,9 @@ impl Watch {
     /// it without the claim itself: a claim that is granted or waits changes nothing else of it
     /// that a reading looks at.
     fn own_call(&mut self, after: &Disk, outcome: &Outcome, record: &[u8]) -> Result<(), String> {
-        let Some((now, asked)) = well_formed_reading(record) else {
-            return Ok(());
+        let (now, asked) = match well_formed_reading(record) {
+            Some(reading) => reading,
+            None => return Ok(()),
         };
         let mut before = after.clone();
         match outcome {
@@ -265,29 +265,30 @@ fn without_readers(disk: &mut Disk) {
 /// "a well-formed reading": by its own bytes it earns no 10, 11, 16 or 17.
 fn well_formed_reading(bytes: &[u8]) -> Option<(i64, Claim)> {
     let request = record::read(bytes)?;
-    let Kind::Claim {
-        method,
-        priority,
-        fresh,
-        measured,
-        value,
-        error_or_limit,
-    } = request.kind
-    else {
-        return None;
-    };
-    let method = Method::of_number(method).filter(|m| m.is_reading())?;
-    let in_range = amount_in_range(error_or_limit) && value == 0 && measured == 0;
-    let asked = Claim {
-        ticket: 0,
-        method,
-        priority,
-        fresh,
-        measured,
-        value,
-        error_or_limit,
-        told: 0,
-        amount: 0,
+    let (asked, in_range) = match request.kind {
+        Kind::Claim {
+            method,
+            priority,
+            fresh,
+            measured,
+            value,
+            error_or_limit,
+        } => {
+            let asked = Claim {
+                ticket: 0,
+                method: Method::of_number(method).filter(|m| m.is_reading())?,
+                priority,
+                fresh,
+                measured,
+                value,
+                error_or_limit,
+                told: 0,
+                amount: 0,
+            };
+            let in_range = amount_in_range(error_or_limit) && value == 0 && measured == 0;
+            (asked, in_range)
+        }
+        _ => return None,
     };
     (request.disk < DISKS && in_range).then_some((request.now, asked))
 }

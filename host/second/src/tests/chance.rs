@@ -116,9 +116,8 @@ fn any_bytes_end_in_an_answer() {
     }
 }
 
-/// Run by hand, in release: prints calls a second.
+/// Prints calls a second; they mean something in release, with --nocapture.
 #[test]
-#[ignore]
 fn speed() {
     let mut chance = Chance(99);
     let mut desk = Desk::empty();

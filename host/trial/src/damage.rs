@@ -1,0 +1,197 @@
+//! Damaged parts: each clause of 01's "Sound" broken by itself, and several at once.
+
+use crate::hurt::*;
+use crate::odd::BILLION;
+use second::{Action, Claim, PART};
+
+pub type Damage = fn(&mut Hurt) -> bool;
+
+const LAST: i64 = u32::MAX as i64;
+const LEAST: i64 = i32::MIN as i64;
+const OVER: [i64; 4] = [BILLION + 1, -BILLION - 1, LEAST, i32::MAX as i64];
+
+pub const DAMAGES: &[(&str, Damage)] = &[
+    ("a spare word of the head", |h| h.flip(&[56, 60])),
+    ("a spare word of a claim", spare_of_claim),
+    ("a byte past the count", past_the_count),
+    ("active count above 8", |h| count_above_8(h, 8, h.disk.active.len())),
+    ("waiting count above 8", |h| count_above_8(h, 12, h.disk.waiting.len())),
+    ("a count off by one", off_by_one),
+    ("a method above 6", |h| h.on(h.any(all), METHOD, &[7, 8, 255, 256, LAST])),
+    ("told of a write", |h| h.on(h.active(is_write), TOLD, &[1, LAST, LEAST])),
+    ("amount of a write", |h| h.on(h.active(is_write), AMOUNT, &[1, LAST])),
+    ("told of a waiting claim", |h| h.on(h.waiting(all), TOLD, &[1, LAST, LEAST])),
+    ("amount of a waiting claim", |h| h.on(h.waiting(all), AMOUNT, &[1, LAST])),
+    ("a ticket twice", ticket_twice),
+    ("ticket 0", |h| h.on(h.any(all), TICKET, &[0])),
+    ("a ticket not below next", |h| h.on(h.any(all), TICKET, &[h.disk.next_ticket, h.disk.next_ticket + 1, LAST])),
+    ("next ticket 0", |h| h.set(4, 0)),
+    ("next ticket above 1,000,000", |h| h.one(&[4], &[1_000_001, 1_000_002, LAST])),
+    ("waiting claims out of order", out_of_order),
+    ("used or promised out of range", |h| h.one(&[16, 32], &OVER)),
+    ("state out of range", |h| h.one(&[48], &[256, -1, LAST, LEAST])),
+    ("-2^31 as a value or as told", least),
+    ("an amount over its limit", amount_over_limit),
+    ("a limit above 2,000,000,000", |h| h.one(&[28, 44], &[2 * BILLION + 1, LAST])),
+    ("a stamp after the clock", |h| h.disk.clock < LAST && h.one(&[20, 36, 52], &[h.disk.clock + 1, LAST])),
+    ("a measuring second after the clock", measured_late),
+    ("the clock before a stamp or measuring second", clock_back),
+    ("a reading's second of measuring", |h| h.on(h.any(Claim::is_reading), MEASURED, &[1, h.disk.clock.max(1)])),
+    ("a reading's value", |h| h.on(h.any(Claim::is_reading), VALUE, &[1, -1, LEAST])),
+    ("a write's value out of range", value_out),
+    ("the fresh flag of a write", |h| h.on(h.any(is_write), FLAG, &[1])),
+    ("a flag above 1", |h| h.on(h.any(all), FLAG, &[2, 256, LAST])),
+    ("a priority above 255", |h| h.on(h.any(all), PRIORITY, &[256, LAST])),
+    ("an own error or stated limit above 2,000,000,000", |h| h.on(h.any(all), ERROR, &[2 * BILLION + 1, LAST])),
+    ("an own error over the attribute's limit", own_error_over_limit),
+    ("a reading's amount over its limit", reading_over_limit),
+    ("told beyond 2,000,000,000", told_beyond),
+    ("entry N among the active", never),
+    ("adds over 1,000,000,000", adds_over),
+    ("all zeros", |h| h.fill(0)),
+    ("all ones", |h| h.fill(0xff)),
+    ("bytes by chance", bytes_by_chance),
+    ("a few bytes by chance", few_by_chance),
+    ("several of these", several),
+];
+
+fn all(_: &Claim) -> bool {
+    true
+}
+
+fn is_write(claim: &Claim) -> bool {
+    !claim.is_reading()
+}
+
+fn spare_of_claim(h: &mut Hurt) -> bool {
+    h.pick(&h.any(all)).map_or(false, |(slot, _)| h.flip(&SPARE.map(|spare| slot + spare)))
+}
+
+fn past_the_count(h: &mut Hurt) -> bool {
+    let after_active = (active(h.disk.active.len()), waiting(0));
+    let after_waiting = (waiting(h.disk.waiting.len()), PART);
+    let (first, last) = h.chance.one_of(&[after_active, after_waiting]);
+    if first == last {
+        return false;
+    }
+    let any = h.between(first, last);
+    let at = h.chance.one_of(&[first, last - 1, any]);
+    h.part[at] = h.chance.one_of(&[1, 128, 255]);
+    true
+}
+
+fn count_above_8(h: &mut Hurt, at: usize, count: usize) -> bool {
+    h.one(&[at], &[9, 10, 255, 256 + count as i64, (1 << 31) + count as i64, LAST])
+}
+
+/// One claim fewer than there are, or one more: the next slot is all zeros, and 0 is no ticket.
+fn off_by_one(h: &mut Hurt) -> bool {
+    let counts = [(8, h.disk.active.len() as i64), (12, h.disk.waiting.len() as i64)];
+    let (at, count) = h.chance.one_of(&counts);
+    let other = h.chance.one_of(&[count - 1, count + 1]);
+    (0..=8).contains(&other) && h.set(at, other)
+}
+
+fn ticket_twice(h: &mut Hurt) -> bool {
+    let claims = h.any(all);
+    h.two(claims.len()).map_or(false, |(one, other)| h.set(claims[one].0 + TICKET, claims[other].1.ticket))
+}
+
+/// Two waiting claims change places.
+fn out_of_order(h: &mut Hurt) -> bool {
+    let pair = h.two(h.disk.waiting.len());
+    if let Some((one, other)) = pair {
+        (0..SLOT).for_each(|byte| h.part.swap(waiting(one) + byte, waiting(other) + byte));
+    }
+    pair.is_some()
+}
+
+fn least(h: &mut Hurt) -> bool {
+    let mut places = vec![16, 32, 48];
+    places.extend(h.any(all).iter().flat_map(|(slot, _)| [slot + VALUE, slot + TOLD]));
+    h.one(&places, &[LEAST])
+}
+
+fn amount_over_limit(h: &mut Hurt) -> bool {
+    let k = h.between(0, 2);
+    let limit = h.disk.attributes[k].limit;
+    h.one(&[24 + 16 * k], &[limit + 1, limit + 1, 2 * BILLION + 1, LAST])
+}
+
+fn measured_late(h: &mut Hurt) -> bool {
+    h.disk.clock < LAST && h.on(h.any(is_write), MEASURED, &[h.disk.clock + 1, LAST])
+}
+
+fn clock_back(h: &mut Hurt) -> bool {
+    let stamps = h.disk.attributes.iter().map(|a| a.stamp);
+    let measured = h.disk.active.iter().chain(&h.disk.waiting).map(|claim| claim.measured);
+    let latest = stamps.chain(measured).max().unwrap_or(0);
+    latest > 0 && h.set(0, latest - 1)
+}
+
+fn value_out(h: &mut Hurt) -> bool {
+    h.pick(&h.any(is_write)).map_or(false, |(slot, claim)| match claim.method.action() {
+        Action::Set(2) => h.one(&[slot + VALUE], &[256, -1, LEAST]),
+        _ => h.one(&[slot + VALUE], &OVER),
+    })
+}
+
+fn own_error_over_limit(h: &mut Hurt) -> bool {
+    h.pick(&h.any(is_write)).map_or(false, |(slot, claim)| match claim.method.action() {
+        Action::Set(k) | Action::Add(k) => h.set(slot + ERROR, h.disk.attributes[k].limit + 1),
+        Action::Read => false,
+    })
+}
+
+fn reading_over_limit(h: &mut Hurt) -> bool {
+    let reading = h.pick(&h.active(Claim::is_reading));
+    reading.map_or(false, |(slot, claim)| h.one(&[slot + AMOUNT], &[claim.stated_limit() + 1, LAST]))
+}
+
+fn told_beyond(h: &mut Hurt) -> bool {
+    h.on(h.active(Claim::is_reading), TOLD, &[2 * BILLION + 1, -2 * BILLION - 1, LEAST])
+}
+
+/// Two active claims become a pair with entry N, all their other figures 0.
+fn never(h: &mut Hurt) -> bool {
+    let pair = h.two(h.disk.active.len());
+    if let Some((one, other)) = pair {
+        let methods = h.chance.one_of(&[(3, 3), (3, 6), (6, 3), (1, 2), (2, 1)]);
+        for (slot, method) in [(active(one), methods.0), (active(other), methods.1)] {
+            h.part[slot + METHOD..slot + SLOT].fill(0);
+            h.set(slot + METHOD, method);
+        }
+    }
+    pair.is_some()
+}
+
+/// |promised| and all that is added come to 1,000,000,001.
+fn adds_over(h: &mut Hurt) -> bool {
+    h.pick(&h.active(Claim::is_add)).map_or(false, |(slot, add)| {
+        let others = h.disk.attributes[1].value.abs() + h.disk.sum_of_active_adds() - add.value.abs();
+        let over = BILLION - others + 1;
+        over <= BILLION && h.one(&[slot + VALUE], &[over, -over])
+    })
+}
+
+fn bytes_by_chance(h: &mut Hurt) -> bool {
+    h.chance.fill(h.part);
+    true
+}
+
+fn few_by_chance(h: &mut Hurt) -> bool {
+    for _ in 0..h.chance.between(1, 3) {
+        let at = h.between(0, PART);
+        h.part[at] = h.chance.word() as u8;
+    }
+    true
+}
+
+/// Two or three damages, one over the other.
+fn several(h: &mut Hurt) -> bool {
+    for _ in 0..h.chance.between(2, 3) {
+        let kind = h.between(0, DAMAGES.len() - 1);
+        DAMAGES[kind].1(h);
+    }
+    true
+}

@@ -1,0 +1,97 @@
+//! A part that is being damaged, beside the sound disk whose part it was; what every damage needs.
+
+use crate::chance::Chance;
+use second::{Claim, Disk, PART};
+
+/// Places in a slot.
+pub const TICKET: usize = 0;
+pub const METHOD: usize = 4;
+pub const PRIORITY: usize = 8;
+pub const FLAG: usize = 12;
+pub const MEASURED: usize = 16;
+pub const VALUE: usize = 20;
+pub const ERROR: usize = 24;
+pub const TOLD: usize = 28;
+pub const AMOUNT: usize = 32;
+pub const SPARE: [usize; 2] = [36, 40];
+pub const SLOT: usize = 44;
+
+pub const fn active(k: usize) -> usize {
+    64 + SLOT * k
+}
+
+pub const fn waiting(k: usize) -> usize {
+    416 + SLOT * k
+}
+
+pub struct Hurt<'a> {
+    pub chance: &'a mut Chance,
+    pub disk: &'a Disk,
+    pub part: &'a mut [u8; PART],
+}
+
+/// Every function that damages says whether it did: false where the disk has nothing to damage so.
+impl<'a> Hurt<'a> {
+    /// Puts a word; words and signed words alike are the number modulo 2^32.
+    pub fn set(&mut self, at: usize, word: i64) -> bool {
+        self.part[at..at + 4].copy_from_slice(&(word as u32).to_le_bytes());
+        true
+    }
+
+    /// Puts one of the words in one of the places.
+    pub fn one(&mut self, places: &[usize], words: &[i64]) -> bool {
+        let (at, word) = (self.chance.one_of(places), self.chance.one_of(words));
+        self.set(at, word)
+    }
+
+    /// Changes one bit of the words in one of the places.
+    pub fn flip(&mut self, places: &[usize]) -> bool {
+        let at = self.chance.one_of(places) + self.chance.below(4) as usize;
+        self.part[at] ^= 1 << self.chance.below(8);
+        true
+    }
+
+    pub fn fill(&mut self, byte: u8) -> bool {
+        self.part.fill(byte);
+        true
+    }
+
+    /// A number from the first to before the last.
+    pub fn between(&mut self, first: usize, last: usize) -> usize {
+        first + self.chance.below((last - first) as u64) as usize
+    }
+
+    /// The active claims that are meant, with their slots.
+    pub fn active(&self, meant: fn(&Claim) -> bool) -> Vec<(usize, &'a Claim)> {
+        let slots = self.disk.active.iter().enumerate().map(|(k, claim)| (active(k), claim));
+        slots.filter(|(_, claim)| meant(claim)).collect()
+    }
+
+    pub fn waiting(&self, meant: fn(&Claim) -> bool) -> Vec<(usize, &'a Claim)> {
+        let slots = self.disk.waiting.iter().enumerate().map(|(k, claim)| (waiting(k), claim));
+        slots.filter(|(_, claim)| meant(claim)).collect()
+    }
+
+    pub fn any(&self, meant: fn(&Claim) -> bool) -> Vec<(usize, &'a Claim)> {
+        let mut all = self.active(meant);
+        all.extend(self.waiting(meant));
+        all
+    }
+
+    /// Puts one of the words in its place in the slot of one of the claims.
+    pub fn on(&mut self, claims: Vec<(usize, &Claim)>, at: usize, words: &[i64]) -> bool {
+        self.pick(&claims).map_or(false, |(slot, _)| self.one(&[slot + at], words))
+    }
+
+    pub fn pick<'b>(&mut self, claims: &[(usize, &'b Claim)]) -> Option<(usize, &'b Claim)> {
+        (!claims.is_empty()).then(|| self.chance.one_of(claims))
+    }
+
+    /// Two different numbers below a count.
+    pub fn two(&mut self, count: usize) -> Option<(usize, usize)> {
+        (count > 1).then(|| {
+            let one = self.between(0, count);
+            (one, (one + self.between(1, count)) % count)
+        })
+    }
+}

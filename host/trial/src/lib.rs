@@ -1,0 +1,26 @@
+//! The desk on trial: the exported `step` beside the second program, the same calls, compared byte for byte.
+//!
+//! `trial` makes rounds of `event`s (`traffic`, `claims`, `aims`, `outside`, `odd`, `damage`), `beside` does each to both and
+//! compares, `shrink` makes a failing list short and `words` prints it. `fuzz` lends any bytes between guard pages.
+//! `wrong` and `overrun` have desks that must be seen.
+
+mod aims;
+pub mod beside;
+pub mod chance;
+mod claims;
+pub mod counts;
+mod damage;
+pub mod edges;
+pub mod event;
+pub mod fuzz;
+mod guard;
+mod hurt;
+mod odd;
+mod outside;
+pub mod overrun;
+pub mod shrink;
+mod simpler;
+mod traffic;
+pub mod trial;
+pub mod words;
+pub mod wrong;

@@ -1,0 +1,131 @@
+//! `trial --calls N --seed S`: so many calls to the desk and to the second program, compared.
+//! `trial --fuzz N --seed S`: so many runs on any bytes between guard pages.
+//! `--wrong NAME`: on a desk that is wrong; the trial has to fail. `--wrong list` names them.
+
+use std::os::raw::c_long;
+use std::process::exit;
+use trial::beside::{Proved, Step};
+use trial::fuzz::{fuzz, step, Raw};
+use trial::overrun::OVERRUNS;
+use trial::shrink::shrink;
+use trial::trial::{Failure, Trial};
+use trial::words;
+use trial::wrong::{WrongDesk, WRONGS};
+
+/// A run of so many calls has to see everything at least once.
+const SEES_ALL: u64 = 5_000_000;
+
+extern "C" {
+    /// Processor time of this process, on Linux in millionths of a second.
+    fn clock() -> c_long;
+}
+
+fn processor_seconds() -> f64 {
+    // SAFETY: it takes nothing and only answers.
+    unsafe { clock() as f64 / 1e6 }
+}
+
+#[derive(Default)]
+struct Asked {
+    calls: u64,
+    fuzz: u64,
+    seed: u64,
+    wrong: Option<String>,
+}
+
+fn usage(text: &str) -> ! {
+    eprintln!("trial: {text}\nusage: trial [--calls N] [--fuzz N] [--seed S] [--wrong NAME]");
+    exit(2)
+}
+
+fn asked() -> Asked {
+    let mut asked = Asked { seed: 1, ..Asked::default() };
+    let mut words = std::env::args().skip(1);
+    while let Some(word) = words.next() {
+        let value = words.next().unwrap_or_else(|| usage(&format!("{word} wants a value")));
+        let number = || value.replace('_', "").parse().unwrap_or_else(|_| usage(&format!("{value} is no number")));
+        match word.as_str() {
+            "--calls" => asked.calls = number(),
+            "--fuzz" => asked.fuzz = number(),
+            "--seed" => asked.seed = number(),
+            "--wrong" => asked.wrong = Some(value),
+            _ => usage(&format!("what is {word}?")),
+        }
+    }
+    if asked.calls == 0 && asked.fuzz == 0 && asked.wrong.is_none() {
+        usage("nothing to do");
+    }
+    asked
+}
+
+/// The calls; false if anything differs, or was not seen in a long run.
+fn compared<S: Step>(asked: &Asked, desk: &dyn Fn() -> S) -> bool {
+    println!("trial: seed {}, {} calls", asked.seed, asked.calls);
+    let start = processor_seconds();
+    let mut trial = Trial::new(desk(), asked.seed);
+    let ended = trial.run(asked.calls);
+    let (calls, seconds) = (trial.beside.counts.calls, processor_seconds() - start);
+    if let Err(failure) = ended {
+        report(asked.seed, calls, shrink(desk, failure));
+        return false;
+    }
+    let missing = trial.beside.counts.print();
+    let rate = calls as f64 / seconds / 1e6;
+    println!("trial: seed {}, {calls} calls compared, no difference, {rate:.2} million a second of a core", asked.seed);
+    for name in &missing {
+        println!("trial: not seen: {name}");
+    }
+    missing.is_empty() || asked.calls < SEES_ALL
+}
+
+fn report(seed: u64, calls: u64, failure: Failure) {
+    println!("trial: seed {seed}, call {calls} differs; the shortest list from the empty board:");
+    words::print(&failure.events);
+    println!("trial: seed {seed}: after event {}: {}", failure.events.len(), failure.wrong);
+}
+
+fn fuzzed(asked: &Asked, desk: Raw) -> bool {
+    println!("fuzz: seed {}, {} runs", asked.seed, asked.fuzz);
+    match fuzz(asked.fuzz, asked.seed, desk) {
+        Err(wrong) => {
+            println!("fuzz: seed {}, {wrong}", asked.seed);
+            false
+        }
+        Ok(codes) => {
+            for (code, count) in codes.iter().enumerate().filter(|(code, _)| *code < 4 || *code > 8) {
+                println!("{count:>12}  {code}");
+            }
+            println!("fuzz: seed {}, {} runs, nothing read or written outside, no difference", asked.seed, asked.fuzz);
+            true
+        }
+    }
+}
+
+fn main() {
+    let asked = asked();
+    let mut well = true;
+    match asked.wrong.as_deref() {
+        None => {
+            if asked.calls > 0 {
+                well &= compared(&asked, &|| Proved);
+            }
+            if asked.fuzz > 0 {
+                well &= fuzzed(&asked, step);
+            }
+        }
+        Some("list") => {
+            WRONGS.iter().for_each(|(name, _)| println!("{name} (--calls)"));
+            OVERRUNS.iter().for_each(|(name, _)| println!("{name} (--fuzz)"));
+        }
+        Some(name) => {
+            let wrong = WRONGS.iter().find(|(known, _)| *known == name);
+            let overrun = OVERRUNS.iter().find(|(known, _)| *known == name);
+            match (wrong, overrun) {
+                (Some((_, wrong)), _) => well = compared(&asked, &|| WrongDesk(*wrong)),
+                (_, Some((_, overrun))) => well = fuzzed(&asked, *overrun),
+                _ => usage(&format!("no wrong desk is named {name}")),
+            }
+        }
+    }
+    exit(i32::from(!well));
+}
