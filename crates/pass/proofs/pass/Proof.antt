@@ -1,10 +1,9 @@
 -- What is left of the pass, over the disk so far, is the pass of the law: each turn keeps it, by PassLaws.
 use Prim.Native.Nat.{ℕ, _-_, _≤_, _<_}
-use mathlib.Core.Path.{_≡_, refl, sym, _∙_, subst}
+use mathlib.Core.Path.{_≡_, sym, _∙_, subst}
 use native.Mathlib.Omega.{arith}
 use borrow.Author.Needs.{needs}
 use lib.ListN.{length}
-use Rattle.law.specs.Types.{Disk as LawDisk}
 use Rattle.rules.specs.declared.disk.Disk.{Disk}
 use Rattle.rules.specs.Disks.{DiskIs}
 use Rattle.part.specs.Layout.{decode}

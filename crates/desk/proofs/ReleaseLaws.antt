@@ -1,28 +1,27 @@
 -- Laws of a release: the claim that ends, active or waiting, and the refusal where there is none.
-use Prim.Native.Nat.{ℕ, suc, _+_, _≤_, _<_}
+use Prim.Native.Nat.{ℕ, suc, _≤_, _<_}
 use mathlib.Core.Bool.{Bool, true, false, cond, _||_}
 use mathlib.Core.List.{List, [], _∷_}
 use mathlib.Core.Path.{_≡_, refl, sym, ap, _∙_}
 use native.Mathlib.Omega.{arith}
 use lib.ListN.{length, getD}
 use borrow.Author.Tests.{lt-ltb, le-ltb, ne-eqb}
-use Rattle.num.specs.Metric.{size}
 use Rattle.law.specs.declared.Claim.{Claim}
 use Rattle.law.specs.Base.{anyOf}
-use Rattle.law.specs.Lists.{never-true, none-tests, pairs-cross, all-left}
-use Rattle.law.specs.Types.{a1, Figures, Disk as LawDisk, refused}
+use Rattle.law.specs.Lists.{never-true, none-tests, pairs-cross, all-at}
+use Rattle.law.specs.Types.{Figures, Disk as LawDisk, refused}
 use Rattle.law.specs.Entries.{kindOf}
 use Rattle.law.specs.Calls.{hasTicket, without, landBy, landed, finish, at, release}
-use Rattle.law.specs.Sound.{Passes, Sound}
+use Rattle.law.specs.Sound.{Sound}
 use Rattle.law.specs.SoundKept.{sound-finish}
 use Rattle.law.specs.TicketLaws.{Apart}
 use Rattle.law.specs.ProperLaws.{disk-proper}
 use Rattle.law.specs.DiskType.{diskTable}
 use Rattle.claims.specs.Rows.{noClaim, placeOf, removeAt}
 use Rattle.claims.specs.PlaceLaws.{any-first, place-ticket, without-place}
-use Rattle.rules.specs.Answers.{endedAt, leftAt, released}
-use Rattle.rules.proofs.RangeLaws.{fields-size}
-use Rattle.law.specs.Lists.{all-at}
+use Rattle.rules.specs.Answers.{endedAt, leftAt}
+use Rattle.pass.specs.Turns.{passedOf}
+use Rattle.desk.specs.Step.{released}
 
 module _ (n : ℕ) where
   pub without-absent : (ws : List Claim) → anyOf (hasTicket n) ws ≡ false → without n ws ≡ ws
@@ -59,15 +58,6 @@ module _ (n : ℕ) where
       go true h k = refl
       go false h k = k (omega arith)
 
--- An active claim that lands fits: its value and that of promised are in range.
-pub land-fits : (d : LawDisk) (i : ℕ) → Sound diskTable d → i < length (d .core .active) →
-    size (d .core .figures .f1 .value) + size (getD (d .core .active) i noClaim .value) ≤ 2_000_000_000
-land-fits d i s h =
-    let w : Claim = getD (d .core .active) i noClaim in
-    let p : Passes diskTable (d .core .figures) (d .core .clock) w =
-    all-at _ (d .core .active) noClaim i h (all-left _ (d .core .active) (d .waiting) (s .allPass)) in
-    omega (arith, s .values a1, fields-size (d .core .clock) (kindOf diskTable w) w (p .fields))
-
 module _ (d : LawDisk) (now n : ℕ) where
   pub release-early : now < d .core .clock → release diskTable d now n ≡ refused 15
   unfolding release
@@ -99,7 +89,7 @@ module _ (d : LawDisk) (now n : ℕ) where
             (pairs-cross Apart (d .core .active) (d .waiting) (s .distinct))))
 
         pub release-active : release diskTable d now n ≡ released (endedAt d now i) n
-        unfolding release released endedAt
+        unfolding release released passedOf endedAt
         release-active = rw (le-ltb now (d .core .clock) l, active-here, core-ends, waiting-stays)
 
         pub sound-active : Sound diskTable (endedAt d now i)
@@ -122,7 +112,7 @@ module _ (d : LawDisk) (now n : ℕ) where
         waiting-less = rw e (without-place n (d .waiting))
 
         pub release-waiting : i < length (d .waiting) → release diskTable d now n ≡ released (leftAt d now i) n
-        unfolding release released leftAt
+        unfolding release released passedOf leftAt
         release-waiting h =
             rw (
               le-ltb now (d .core .clock) l,

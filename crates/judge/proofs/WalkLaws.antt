@@ -1,90 +1,26 @@
--- Laws of the loops: what a test or a sum over the active claims, taken in one walk, says of the law's tests and sums.
-use Prim.Native.Nat.{ℕ, zero, suc, _+_, _≤_, _<_}
+-- Laws of the walks: what a test or a sum over the active claims, taken in one walk, says of the law's tests and sums.
+use Prim.Native.Nat.{ℕ, _+_, _≤_, _<_}
 use mathlib.Core.Bool.{Bool, true, false, cond, not, _&&_}
 use mathlib.Core.List.{List, [], _∷_}
-use mathlib.Core.Path.{_≡_, refl, sym, ap, _∙_}
+use mathlib.Core.Path.{_≡_, refl, ap, _∙_}
 use native.Mathlib.Numerals.{add-one}
 use native.Mathlib.Omega.{arith}
-use borrow.Author.Tests.{lt-ltb, le-ltb}
 use lib.Dec.{leb}
 use lib.ListN.{length, take, drop, getD, drop-of-length-le}
 use lib.Seq.{length-take-le, drop-cons, getD-take}
-use Rattle.num.specs.Bits.{hasBit}
 use Rattle.num.specs.Metric.{dist}
 use Rattle.law.specs.declared.Claim.{Claim}
 use Rattle.law.specs.declared.Entry.{Entry}
 use Rattle.law.specs.declared.Entry.the-variants.{A, N, D, G}
 use Rattle.law.specs.Base.{allTrue, everyOf, anyOf, sumOf}
-use Rattle.law.specs.Types.{a0, a1, a2, Kind, sets, adds, reads, Figures}
+use Rattle.law.specs.Types.{Kind, sets, adds, reads, Figures}
 use Rattle.law.specs.Entries.{kindAt, kindOf, entryBy, entry, isNever}
-use Rattle.law.specs.Granting.{addsTo, limitBy, startBy, gapBy, costBy, raisesBy, cost, stays, total, lockStep}
+use Rattle.law.specs.Granting.{limitBy, startBy, gapBy, costBy, raisesBy, cost, stays, total, lockStep}
 use Rattle.law.specs.DiskType.{diskTable}
-use Rattle.law.specs.TableLaws.{entryAt, disk-entry}
 use Rattle.claims.specs.Rows.{noClaim}
-use Rattle.lock.specs.Methods.{isReading, isAdd}
-use Rattle.lock.specs.Loops.{coreOf, indexOf, letsBy, costOn, letsOf, costOf, barsBy, barsAt}
-use Rattle.lock.proofs.MethodLaws.{method-past}
-
--- ---- methods
-
--- A fact of the kind of each of the disk's methods, and of the kind of one that there is not, is a fact of every method's kind.
-pub each-kind : (P : Kind → Type 0) → P (sets a0) → P (adds a1) → P (sets a1) → P (sets a2) →
-    P (reads 1) → P (reads 3) → P (reads 4) → P (reads 0) → (m : ℕ) → P (kindAt diskTable m)
-unfolding diskTable
-each-kind P p0 p1 p2 p3 p4 p5 p6 p7 zero = p0
-each-kind P p0 p1 p2 p3 p4 p5 p6 p7 (suc zero) = p1
-each-kind P p0 p1 p2 p3 p4 p5 p6 p7 (suc (suc zero)) = p2
-each-kind P p0 p1 p2 p3 p4 p5 p6 p7 (suc (suc (suc zero))) = p3
-each-kind P p0 p1 p2 p3 p4 p5 p6 p7 (suc (suc (suc (suc zero)))) = p4
-each-kind P p0 p1 p2 p3 p4 p5 p6 p7 (suc (suc (suc (suc (suc zero))))) = p5
-each-kind P p0 p1 p2 p3 p4 p5 p6 p7 (suc (suc (suc (suc (suc (suc zero)))))) = p6
-each-kind P p0 p1 p2 p3 p4 p5 p6 p7 (suc (suc (suc (suc (suc (suc (suc m))))))) = p7
-
--- Whatever adds adds to attribute 1.
-pub add-is : (m : ℕ) → isAdd (kindAt diskTable m) ≡ addsTo a1 (kindAt diskTable m)
-add-is m = each-kind (λ k. isAdd k ≡ addsTo a1 k) refl refl refl refl refl refl refl refl m
-
-row-past : (k : Kind) → A ≡ entryBy (reads 0) k
-unfolding hasBit
-row-past (sets a0) = refl
-row-past (sets a1) = refl
-row-past (sets a2) = refl
-row-past (adds a0) = refl
-row-past (adds a1) = refl
-row-past (adds a2) = refl
-row-past (reads m) = refl
-
-col-past : (k : Kind) → A ≡ entryBy k (reads 0)
-unfolding hasBit
-col-past (sets a0) = refl
-col-past (sets a1) = refl
-col-past (sets a2) = refl
-col-past (adds a0) = refl
-col-past (adds a1) = refl
-col-past (adds a2) = refl
-col-past (reads m) = refl
-
--- The index of a method that there is.
-pub index-is : (m : ℕ) → m < 7 → indexOf m ≡ m
-unfolding indexOf
-index-is m h = rw (lt-ltb m 7 h)
-
-pub index-past : (m : ℕ) → 7 ≤ m → indexOf m ≡ 0
-unfolding indexOf
-index-past m h = rw (le-ltb m 7 h)
-
--- What stands in the table at the indices of two methods.
-pub found-at : (m n r s : ℕ) → r ≡ indexOf m → s ≡ indexOf n → entryAt r s ≡ entryAt (indexOf m) (indexOf n)
-found-at m n r s h g = rw (h, g)
-
-pub entry-of : (m n : ℕ) → m < 7 → n < 7 → entryAt (indexOf m) (indexOf n) ≡ entryBy (kindAt diskTable m) (kindAt diskTable n)
-entry-of m n h g = rw (index-is m h, index-is n g) (disk-entry m n h g)
-
-pub entry-row-past : (m n : ℕ) → 7 ≤ m → A ≡ entryBy (kindAt diskTable m) (kindAt diskTable n)
-entry-row-past m n h = row-past (kindAt diskTable n) ∙ ap (λ k. entryBy k (kindAt diskTable n)) (sym (method-past m h))
-
-pub entry-col-past : (m n : ℕ) → 7 ≤ n → A ≡ entryBy (kindAt diskTable m) (kindAt diskTable n)
-entry-col-past m n h = col-past (kindAt diskTable m) ∙ ap (entryBy (kindAt diskTable m)) (sym (method-past n h))
+use Rattle.lock.specs.Methods.{isReading}
+use Rattle.lock.specs.Pairs.{coreOf, letsBy, costOn, barsBy}
+use Rattle.judge.specs.Decisions.{letsOf, costOf, barsAt}
 
 -- ---- tests and sums of two functions that agree
 
@@ -206,11 +142,6 @@ module _ (a : List Claim) (n : ℕ) (fits : n ≤ length a) (p : Claim → Bool)
 
   pub first-any-end : n ≤ i → false ≡ anyOf p (drop i (take n a))
   first-any-end h = rw (drop-of-length-le (take n a) {i = i} (omega (arith, first-length)))
-
--- The last test of a list of tests.
-pub last-test : (b : Bool) → b ≡ (b && true)
-last-test true = refl
-last-test false = refl
 
 -- What the leaf says of one waiting claim.
 pub bars-at : (f : Figures) (now sum priority m : ℕ) (w : Claim) {e : Entry} {b : Bool} →

@@ -12,10 +12,12 @@ use Rattle.law.specs.Lists.{never-true}
 use Rattle.law.specs.Types.{a1, Figures}
 use Rattle.law.specs.Granting.{addsOn, total, lockStep, bars, granted}
 use Rattle.law.specs.DiskType.{diskTable}
 use Rattle.lock.specs.Methods.{preOf}
-use Rattle.lock.specs.Loops.{coreOf, barsBy, barsAt, barsOf, DecidedIs}
-use Rattle.lock.proofs.LoopLaws.{any-same, last-test}
+use Rattle.lock.specs.Pairs.{coreOf, barsBy}
+use Rattle.lock.proofs.EntryLaws.{last-test}
 use Rattle.lock.proofs.RuleLaws.{pre-is}
+use Rattle.judge.specs.Decisions.{barsAt, barsOf, DecidedIs}
+use Rattle.judge.proofs.WalkLaws.{any-same}
 
 pub from-not : (b v : Bool) → not b ≡ v → b ≡ not v
 from-not true v h = ap not h

@@ -1,8 +1,7 @@
--- What the loops over the claims say, over the law's definitions.
+-- What two claims have to do with each other, over the law's definitions.
 use Prim.Native.Nat.{ℕ, _+_}
 use mathlib.Core.Bool.{Bool, true, false, cond, not}
 use mathlib.Core.List.{List, [], _∷_}
-use mathlib.Core.Path.{_≡_}
 use lib.Dec.{leb, ltb}
 use Rattle.num.specs.Metric.{size, dist}
 use Rattle.law.specs.declared.Claim.{Claim}
@@ -10,10 +9,10 @@ use Rattle.law.specs.declared.Entry.{Entry}
 use Rattle.law.specs.declared.Entry.the-variants.{A, N, D, G}
 use Rattle.law.specs.Base.{allTrue}
 use Rattle.law.specs.Types.{a1, Figures, Core}
-use Rattle.law.specs.Entries.{isAlways, kindAt, entryBy}
-use Rattle.law.specs.Granting.{addsTo, gapBy, total, granted}
+use Rattle.law.specs.Entries.{isAlways, kindAt}
+use Rattle.law.specs.Granting.{addsTo, gapBy}
 use Rattle.law.specs.DiskType.{diskTable}
-use Rattle.lock.specs.Methods.{isReading, preOf}
+use Rattle.lock.specs.Methods.{preOf}
 
 -- A disk as a decision sees it.
 abbrev pub coreOf : Figures → ℕ → List Claim → Core
@@ -51,32 +50,6 @@ costBetween f e reading c w =
 abbrev pub raiseOf : Figures → Claim → ℕ
 raiseOf f c = c .error + gapBy f (kindAt diskTable (c .method)) (c .value)
 
--- The active claim w lets c pass.
-unfoldable pub letsOf : Figures → Claim → Claim → Bool
-letsOf f c w =
-    letsBy (entryBy (kindAt diskTable (w .method)) (kindAt diskTable (c .method))) (isReading (kindAt diskTable (c .method)))
-    (w .amount) (w .error) (raiseOf f c)
-
--- What it adds to the total of c.
-unfoldable pub costOf : Figures → Claim → Claim → ℕ
-costOf f c w =
-    costBetween f (entryBy (kindAt diskTable (w .method)) (kindAt diskTable (c .method))) (isReading (kindAt diskTable (c .method))) c w
-
 -- The waiting claim w bars one of a priority by their entry, with the sum of the active adds handed in.
 unfoldable pub barsBy : Figures → ℕ → ℕ → ℕ → Entry → Claim → Bool
 barsBy f now sum priority e w = allTrue (leb priority (w .priority) ∷ not (isAlways e) ∷ preOf f now sum w ∷ [])
-
--- It bars one of a priority and a method.
-unfoldable pub barsAt : Figures → ℕ → ℕ → ℕ → ℕ → Claim → Bool
-barsAt f now sum priority m w =
-    barsBy f now sum priority (entryBy (kindAt diskTable (w .method)) (kindAt diskTable m)) w
-
--- It bars c.
-abbrev pub barsOf : Figures → ℕ → ℕ → Claim → Claim → Bool
-barsOf f now sum c = barsAt f now sum (c .priority) (c .method)
-
--- A decision on a claim behind those ahead, and its total where it is granted, else 0.
-pub record DecidedIs (ok : Bool) (sum : ℕ) (s : Core) (ahead : List Claim) (c : Claim) : Type 0 where
-  pub says : ok ≡ granted diskTable s ahead c
-  pub counts : ok ≡ true → sum ≡ total diskTable s c
-  pub fails : ok ≡ false → sum ≡ 0
