@@ -41,7 +41,7 @@ loop-holds c =
     let k = c .before .before .before .before in
     let s = k .args .s .now in (
       k .pre .0,
-      k .pre .1 .1 .1,
+      k .pre .1 .1 .1 .0,
       decodes-holds s (λ i. c .before .before .before .slice-known .given i .fits) (k .pre .0) (k .pre .1 .0),
       run-start (disk k) (k .args .answer .now) (decode-good s (k .pre .0) (k .pre .1 .0)) (k .pre .1 .1 .0),
     )
