@@ -9,7 +9,6 @@ use part::write::put_disk;
 use rules::calls::{asked, open};
 use rules::disk::Asked;
 use std::hint::black_box;
-use std::time::Instant;
 
 const TURNS: u32 = 2_000_000;
 
@@ -26,14 +25,31 @@ const NO_METHOD: u8 = 7;
 type Part = [u8; 768];
 type Record = [u8; 24];
 
+#[repr(C)]
+struct Moment {
+    seconds: i64,
+    nanoseconds: i64,
+}
+
+extern "C" {
+    fn clock_gettime(clock: i32, now: *mut Moment) -> i32;
+}
+
+// The processor's time so far, so that whatever else runs is not counted.
+fn spent() -> f64 {
+    let mut now = Moment { seconds: 0, nanoseconds: 0 };
+    assert_eq!(unsafe { clock_gettime(2, &mut now) }, 0);
+    now.seconds as f64 * 1e9 + now.nanoseconds as f64
+}
+
 fn time<F: FnMut()>(name: &str, mut call: F) {
     let mut least = f64::MAX;
     for _ in 0..5 {
-        let begun = Instant::now();
+        let begun = spent();
         for _ in 0..TURNS {
             call();
         }
-        least = least.min(begun.elapsed().as_nanos() as f64 / TURNS as f64);
+        least = least.min((spent() - begun) / TURNS as f64);
     }
     println!("{least:6.1} ns  {name}");
 }
@@ -60,7 +76,15 @@ fn release(ticket: u8) -> Record {
 
 fn fields(method: u8) -> Asked {
     let brought = brings(method);
-    Asked { now: 0, method: method as u32, priority: 5, flag: 0, measured: 0, value: brought as i32, error: brought as u32 }
+    Asked {
+        now: 0,
+        method: method as u32,
+        priority: 5,
+        flag: 0,
+        measured: 0,
+        value: brought as i32,
+        error: brought as u32,
+    }
 }
 
 // The part after so many more claims of one method, granted or waiting.
