@@ -20,6 +20,7 @@ use Rattle.rules.specs.declared.disk.Disk.{Disk}
 use Rattle.rules.specs.Disks.{diskOf, DiskIs, padded, byValue}
 use Rattle.rules.specs.DiskLaws.{by-value}
 use Rattle.part.specs.Layout.{partBytes, decode, encode, decodes, ClaimFits, ClaimsFit, DiskFits}
+use Rattle.part.specs.SlotLaws.{none-fits}
 use Rattle.part.specs.LayoutLaws.{length-encode, decode-encode, encode-decode, decode-good, encode-decodes, encode-bytes}
 use Rattle.part.specs.Held.{held, partFor, soundPart}
 use Rattle.part.specs.RangeLaws.{active-fits, waiting-fits, attr-fits}
@@ -47,20 +48,6 @@ module _ (ws : List Claim) (few : length ws ≤ places) where
 
   padded-row : Row (padded ws) (length ws)
   padded-row = record { room = length-padded; few = few; clear = behind }
-
-  none-fits : ClaimFits noClaim
-  none-fits =
-      record {
-        ticket = omega arith;
-        method = omega arith;
-        priority = omega arith;
-        flag = omega arith;
-        measured = omega arith;
-        value = omega arith;
-        error = omega arith;
-        told = omega arith;
-        amount = omega arith;
-      }
 
   padded-fits : All ClaimFits ws → ClaimsFit (padded ws)
   padded-fits h = record { room = length-padded; each = λ k. go k (ltb k (length ws)) refl }
