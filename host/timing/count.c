@@ -56,16 +56,17 @@ __attribute__((noinline)) word nothing(byte *b, size bl, const byte *r, size rl,
 
 typedef word (*stepping)(byte *, size, const byte *, size, byte *, size);
 
+// Of the processor's time, so that whatever else runs is not counted.
 static double ns(stepping f) {
     double least = 1e9;
     for (int run = 0; run < RUNS; run++) {
         struct moment from, to;
-        clock_gettime(1, &from);
+        clock_gettime(2, &from);
         for (int i = 0; i < TURNS; i++) {
             memcpy(part, saved, PART);
             f(board, BOARD, record, RECORD, answer, ANSWER);
         }
-        clock_gettime(1, &to);
+        clock_gettime(2, &to);
         double took = ((to.seconds - from.seconds) * 1e9 + (to.nanoseconds - from.nanoseconds)) / TURNS;
         if (took < least) least = took;
     }

@@ -95,6 +95,11 @@ itemsBytes (a ∷ more) = itemBytes a ++ itemsBytes more
 unfoldable pub answerBytes : Answer → List Answer → List ℕ
 answerBytes own grants = itemBytes own ++ (itemsBytes grants ++ replicate (128 - 16 * length grants) 0)
 
+-- A buffer in which one answer stands alone.
+pub record OwnOnly (s : List ℕ) : Type 0 where
+  pub own : Answer
+  pub is : s ≡ answerBytes own []
+
 -- Where an answer stands alone in the buffer s, it stands with these grants behind it in t.
 abbrev pub Behind : List ℕ → List Answer → List ℕ → Type 0
 Behind s grants t = (own : Answer) → s ≡ answerBytes own [] → t ≡ answerBytes own grants

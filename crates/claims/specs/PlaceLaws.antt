@@ -1,8 +1,8 @@
--- Laws of places in a list: the first that passes a test, one removed, one put in, each changed; and how law's `without` and
+-- Laws of places in a list: the first that passes a test, one removed, one put in; and how law's `without` and
 -- `queue` are these.
 use Prim.Native.Nat.{ℕ, zero, suc, _+_, _≤_, _<_}
 use mathlib.Core.Bool.{Bool, true, false, cond, not, _||_}
-use mathlib.Core.List.{List, [], _∷_, _++_, map}
+use mathlib.Core.List.{List, [], _∷_, _++_}
 use mathlib.Core.Path.{_≡_, refl, ap}
 use native.Mathlib.Numerals.{add-one}
 use native.Mathlib.Omega.{arith}
@@ -12,19 +12,11 @@ use borrow.Author.Tests.{lt-ltb, eqb-true}
 use Rattle.law.specs.declared.Claim.{Claim}
 use Rattle.law.specs.Base.{anyOf}
 use Rattle.law.specs.Calls.{hasTicket, without, before, queue}
-use Rattle.claims.specs.Rows.{noClaim, firstOf, placeOf, removeAt, insertAt, mapFrom}
+use Rattle.claims.specs.Rows.{noClaim, firstOf, placeOf, removeAt, insertAt}
 
 -- ---- the first that passes
 
 module _ {A : Type 0} (p : A → Bool) where
-  pub first-most : (l : List A) → firstOf p l ≤ length l
-  first-most [] = omega arith
-  first-most (x ∷ l) = go (p x) (first-most l)
-    where
-      go : (b : Bool) → firstOf p l ≤ length l → cond b 0 (suc (firstOf p l)) ≤ suc (length l)
-      go true h = omega arith
-      go false h = omega arith
-
   -- Where there is one, it passes.
   pub first-passes : (l : List A) (d : A) → firstOf p l < length l → p (getD l (firstOf p l) d) ≡ true
   first-passes [] d h = absurd (omega arith)
@@ -45,19 +37,9 @@ module _ {A : Type 0} (p : A → Bool) where
       go true h = rw (lt-ltb 0 (suc (length l)) (omega arith))
       go false h = rw h (rw (leb·suc-suc (suc (firstOf p l)) (length l)))
 
--- ---- removing, putting in, changing each: a step of a loop that stores in place, and its end
+-- ---- removing, putting in: a step of a loop that stores in place, and its end
 
 module _ {A : Type 0} where
-  pub remove-length : (i : ℕ) (l : List A) → i < length l → length (removeAt i l) + 1 ≡ length l
-  remove-length i [] h = absurd (omega arith)
-  remove-length zero (x ∷ l) h = add-one (length l)
-  remove-length (suc i) (x ∷ l) h = omega (arith, remove-length i l (omega arith))
-
-  pub insert-length : (i : ℕ) (y : A) (l : List A) → length (insertAt i y l) ≡ length l + 1
-  insert-length zero y l = omega arith
-  insert-length (suc i) y [] = refl
-  insert-length (suc i) y (x ∷ l) = omega (arith, insert-length i y l)
-
   -- The one behind stored at i: then it's the one behind that goes.
   remove-on : (l : List A) (i : ℕ) (d : A) → suc i < length l → removeAt (suc i) (set l i (getD l (suc i) d)) ≡ removeAt i l
   remove-on [] i d h = absurd (omega arith)
@@ -89,21 +71,6 @@ module _ {A : Type 0} where
   insert-last [] (suc i) y h = refl
   insert-last (x ∷ l) zero y h = absurd (omega arith)
   insert-last (x ∷ l) (suc i) y h = ap {B = List A} (λ r. x ∷ r) (insert-last l i y (omega arith))
-
-  -- The one at i changed: then only those behind it are left.
-  map-on : (f : A → A) (l : List A) (i : ℕ) (d : A) → i < length l → mapFrom (suc i) f (set l i (f (getD l i d))) ≡ mapFrom i f l
-  map-on f [] i d h = absurd (omega arith)
-  map-on f (x ∷ l) zero d h = refl
-  map-on f (x ∷ l) (suc i) d h = ap {B = List A} (λ r. x ∷ r) (map-on f l i d (omega arith))
-
-  pub map-step : (f : A → A) (l : List A) (i : ℕ) (d : A) → i < length l → mapFrom (i + 1) f (set l i (f (getD l i d))) ≡ mapFrom i f l
-  map-step f l i d h = rw add-one (map-on f l i d h)
-
-  pub map-last : (f : A → A) (l : List A) (i : ℕ) → length l ≤ i → mapFrom i f l ≡ l
-  map-last f [] zero h = refl
-  map-last f [] (suc i) h = refl
-  map-last f (x ∷ l) zero h = absurd (omega arith)
-  map-last f (x ∷ l) (suc i) h = ap {B = List A} (λ r. x ∷ r) (map-last f l i (omega arith))
 
 -- ---- claims
 

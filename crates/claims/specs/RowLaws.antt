@@ -1,6 +1,6 @@
 -- Laws of rows: what a loop by direct index learns at each turn and at its end, and what a store leaves.
 use Prim.Native.Nat.{ℕ, suc, _+_, _≤_, _<_}
-use mathlib.Core.Bool.{Bool, true, false, cond, _&&_, _||_}
+use mathlib.Core.Bool.{Bool, true, false, cond, _&&_}
 use mathlib.Core.List.{List, [], _∷_, _++_}
 use mathlib.Core.Path.{_≡_, refl, sym, ap, _∙_}
 use native.Mathlib.Numerals.{add-one}
@@ -10,9 +10,9 @@ use lib.ListN.{length, take, drop, getD, set, length-set, drop-of-length-le, rep
 use lib.Seq.{length-take-le, drop-cons, getD-take, getD-set-same, getD-set-other, take-suc-set, take-set-lt, take-set-le, drop-set-lt, take-take, ext-getD}
 use borrow.Author.Tests.{ltb-true, ltb-false}
 use Rattle.law.specs.declared.Claim.{Claim}
-use Rattle.law.specs.Base.{everyOf, anyOf, sumOf}
-use Rattle.claims.specs.Rows.{noClaim, Row, RowIs, firstOf, removeAt, insertAt, mapFrom}
-use Rattle.claims.specs.PlaceLaws.{remove-step, remove-last, insert-step, insert-last, map-step, map-last}
+use Rattle.law.specs.Base.{everyOf, sumOf}
+use Rattle.claims.specs.Rows.{noClaim, Row, RowIs, firstOf, removeAt, insertAt}
+use Rattle.claims.specs.PlaceLaws.{remove-step, remove-last, insert-step, insert-last}
 
 module _ {a : List Claim} {n : ℕ} (r : Row a n) where
   pub row-length : length (take n a) ≡ n
@@ -36,7 +36,7 @@ module _ {a : List Claim} {n : ℕ} (r : Row a n) where
   -- A turn of a test; then, by what the claim at i answers, what the test of what is left becomes. The sides stand so that an
   -- invariant `test of what is left ≡ test of the list` goes behind each: `every-on r p i h e ∙ inv`.
   module _ (p : Claim → Bool) (i : ℕ) where
-    pub every-turn : i < n → everyOf p (drop i (take n a)) ≡ (p (getD a i noClaim) && everyOf p (drop (i + 1) (take n a)))
+    every-turn : i < n → everyOf p (drop i (take n a)) ≡ (p (getD a i noClaim) && everyOf p (drop (i + 1) (take n a)))
     every-turn h = ap (everyOf p) (left-on i h)
 
     pub every-on : i < n → p (getD a i noClaim) ≡ true → everyOf p (drop (i + 1) (take n a)) ≡ everyOf p (drop i (take n a))
@@ -47,18 +47,6 @@ module _ {a : List Claim} {n : ℕ} (r : Row a n) where
 
     pub every-end : n ≤ i → true ≡ everyOf p (drop i (take n a))
     every-end h = rw (left-end i h)
-
-    pub any-turn : i < n → anyOf p (drop i (take n a)) ≡ (p (getD a i noClaim) || anyOf p (drop (i + 1) (take n a)))
-    any-turn h = ap (anyOf p) (left-on i h)
-
-    pub any-on : i < n → p (getD a i noClaim) ≡ false → anyOf p (drop (i + 1) (take n a)) ≡ anyOf p (drop i (take n a))
-    any-on h e = rw (any-turn h, e)
-
-    pub any-here : i < n → p (getD a i noClaim) ≡ true → true ≡ anyOf p (drop i (take n a))
-    any-here h e = rw (any-turn h, e)
-
-    pub any-end : n ≤ i → false ≡ anyOf p (drop i (take n a))
-    any-end h = rw (left-end i h)
 
     first-turn : i < n → firstOf p (drop i (take n a)) ≡ cond (p (getD a i noClaim)) 0 (suc (firstOf p (drop (i + 1) (take n a))))
     first-turn h = ap (firstOf p) (left-on i h)
@@ -142,13 +130,6 @@ module _ {a : List Claim} {n : ℕ} (r : Row a n) where
 
   pub insert-end : (i : ℕ) (y : Claim) → n ≤ i → insertAt i y (take n a) ≡ take n a ++ (y ∷ [])
   insert-end i y h = insert-last (take n a) i y (omega (arith, row-length))
-
-  pub map-turn : (f : Claim → Claim) (i : ℕ) → i < n → mapFrom (i + 1) f (take n (set a i (f (getD a i noClaim)))) ≡ mapFrom i f (take n a)
-  map-turn f i h =
-      rw (store-list i (f (getD a i noClaim)) h, ← getD-take n a i noClaim h) (map-step f (take n a) i noClaim (omega (arith, row-length)))
-
-  pub map-end : (f : Claim → Claim) (i : ℕ) → n ≤ i → mapFrom i f (take n a) ≡ take n a
-  map-end f i h = map-last f (take n a) i (omega (arith, row-length))
 
 -- Eight clear places hold no claim.
 pub row-none : RowIs (replicate 8 noClaim) 0 []

@@ -1,7 +1,7 @@
 -- A list of at most eight claims, as an array of eight with a count: what the code keeps, and the list that it stands for.
 use Prim.Native.Nat.{ℕ, zero, suc, _≤_}
 use mathlib.Core.Bool.{Bool, cond}
-use mathlib.Core.List.{List, [], _∷_, map}
+use mathlib.Core.List.{List, [], _∷_}
 use mathlib.Core.Path.{_≡_}
 use lib.IntN.{pos}
 use lib.ListN.{length, take, getD}
@@ -54,9 +54,3 @@ abbrev pub insertAt : {A : Type 0} → ℕ → A → List A → List A
 insertAt zero y xs = y ∷ xs
 insertAt (suc i) y [] = y ∷ []
 insertAt (suc i) y (x ∷ xs) = x ∷ insertAt i y xs
-
--- The list with f done to each from a place on.
-abbrev pub mapFrom : {A : Type 0} → ℕ → (A → A) → List A → List A
-mapFrom zero f xs = map f xs
-mapFrom (suc i) f [] = []
-mapFrom (suc i) f (x ∷ xs) = x ∷ mapFrom i f xs

@@ -7,25 +7,25 @@ use native.Mathlib.Omega.{arith}
 use borrow.Author.Tests.{eqb-true, eq-eqb, ne-eqb, le-leb, lt-leb}
 use borrow.Rule.Slice.PartMut.{putMid, post-is}
 use lib.Dec.{leb, eqb}
-use lib.ListN.{length, take, drop}
+use lib.ListN.{length, take}
 use Rattle.num.specs.Opened.{openAt, setOpen}
 use Rattle.law.specs.Base.{allTrue}
 use Rattle.law.specs.Lists.{and-left}
 use Rattle.law.specs.Types.{mostError, Outcome, refused, accepted}
 use Rattle.law.specs.Calls.{item, opened, openDisk}
-use Rattle.rules.specs.declared.calls.Answered.{Answered}
 use Rattle.rules.specs.Disks.{DiskIs}
-use Rattle.rules.specs.Answers.{noDisk}
-use Rattle.rules.specs.AnswerLaws.{Admits, by-value}
+use Rattle.rules.specs.declared.disk.Disk.{Disk}
+use Rattle.rules.specs.Answers.{Answers}
+use Rattle.rules.specs.DiskLaws.{by-value}
 use Rattle.part.specs.Layout.{encode}
 use Rattle.answer.specs.declared.Answer.the-variants as A
 use Rattle.answer.specs.declared.Refusal.{Refusal}
 use Rattle.answer.specs.declared.Refusal.the-variants as R
-use Rattle.answer.specs.Answers.{numberOf, refusalOf, codeOf, answerBytes}
+use Rattle.answer.specs.Answers.{numberOf, refusalOf, answerBytes}
 use Rattle.desk.specs.Record.{kindOf, diskOf, nowOf, callOf, usedLimit, promisedLimit, wellFormed}
-use Rattle.desk.specs.Board.{disks, partAt, partOf, withPart}
+use Rattle.desk.specs.Board.{disks, partOf, withPart}
 use Rattle.part.specs.Held.{partFor}
-use Rattle.desk.specs.Step.{answerOf, Told, refusing, serveOf, onPart, opening, onDisk, onBoard, tellOf, stepOf, Stepped, stepped, written}
+use Rattle.desk.specs.Step.{answerOf, refusing, serveOf, opening, onDisk, onBoard, tellOf, stepOf, Stepped, stepped, written}
 
 -- ---- a lent part
 
@@ -48,24 +48,24 @@ module _ (b : List ℕ) (d : ℕ) where
       a ≡ answerBytes (A.Refused (refusalOf m)) [] → stepped n b a ≡ written (opening b d o)
   open-refused m e h k = (λ i. stepped (h i) b (k i)) ∙ ap (λ (o : Outcome). written (opening b d o)) (sym e)
 
-  module _ (now l0 l1 : ℕ) (r : Answered) (h : Admits noDisk r (openDisk now l0 l1)) (z : r .refusal ≡ 0) where
-    opens : (openDisk now l0 l1 ≡ accepted (opened now l0 l1) (item 3 0 ∷ [])) × DiskIs (r .disk) (opened now l0 l1)
+  module _ (now l0 l1 : ℕ) {number : ℕ} (e : Disk) (h : Answers number e (openDisk now l0 l1)) (z : number ≡ 0) where
+    opens : (openDisk now l0 l1 ≡ accepted (opened now l0 l1) (item 3 0 ∷ [])) × DiskIs e (opened now l0 l1)
     unfolding openDisk
     opens = go (not (allTrue (leb l0 mostError ∷ leb l1 mostError ∷ []))) h
       where
         outcome : Bool → Outcome
         outcome v = cond v (refused 17) (accepted (opened now l0 l1) (item 3 0 ∷ []))
 
-        go : (v : Bool) → Admits noDisk r (outcome v) →
-            (outcome v ≡ accepted (opened now l0 l1) (item 3 0 ∷ [])) × DiskIs (r .disk) (opened now l0 l1)
+        go : (v : Bool) → Answers number e (outcome v) →
+            (outcome v ≡ accepted (opened now l0 l1) (item 3 0 ∷ [])) × DiskIs e (opened now l0 l1)
         go true h = absurd (omega (arith, h .0, z))
         go false h = (refl, h .1)
 
-    pub open-accepted : {c a : List ℕ} → c ≡ setOpen (withPart b d (encode (r .disk))) d → a ≡ answerBytes A.Opened [] →
+    pub open-accepted : {c a : List ℕ} → c ≡ setOpen (withPart b d (encode e)) d → a ≡ answerBytes A.Opened [] →
         stepped 3 c a ≡ written (opening b d (openDisk now l0 l1))
     unfolding partFor answerOf
-    open-accepted e f =
-        (λ i. stepped 3 ((e ∙ ap (λ (p : List ℕ). setOpen (withPart b d p) d) (ap encode (by-value (opens .1)))) i) (f i))
+    open-accepted k f =
+        (λ i. stepped 3 ((k ∙ ap (λ (p : List ℕ). setOpen (withPart b d p) d) (ap encode (by-value (opens .1)))) i) (f i))
         ∙ ap (λ (o : Outcome). written (opening b d o)) (sym (opens .0))
 
 -- ---- a well-formed record

@@ -16,10 +16,8 @@ use Rattle.law.specs.Sound.{sound, Sound}
 use Rattle.law.specs.Events.{pass-keeps}
 use Rattle.law.specs.DiskType.{diskTable}
 use Rattle.rules.specs.declared.disk.Disk.{Disk}
-use Rattle.rules.specs.declared.calls.Answered.{Answered}
 use Rattle.rules.specs.Disks.{diskOf}
-use Rattle.rules.specs.AnswerLaws.{Admits}
-use Rattle.rules.specs.Answers.{released}
+use Rattle.rules.specs.Answers.{Answers}
 use Rattle.part.specs.Layout.{decode, decodes}
 use Rattle.part.specs.Held.{held, partFor, soundPart}
 use Rattle.part.specs.PartLaws.{held-part, part-sound, sound-decodes, length-part-for}
@@ -29,7 +27,7 @@ use Rattle.answer.specs.declared.Refusal.the-variants as R
 use Rattle.answer.specs.Answers.{numberOf, refusalOf, codeOf, answerBytes}
 use Rattle.pass.specs.Turns.{grantAnswer}
 use Rattle.desk.specs.Record.{kindOf as kindByte, nowOf, askedOf, callOf}
-use Rattle.desk.specs.Step.{answerOf, settled, serveOf, stepped, written}
+use Rattle.desk.specs.Step.{answerOf, settled, released, serveOf, stepped, written}
 
 -- ---- outcomes
 
@@ -43,10 +41,9 @@ pub step-accepted : (p : List ℕ) {o : Outcome} (d : LawDisk) (i : LawItem) (it
 step-accepted p d i items e h k l = (λ j. stepped (h j) (k j) (l j)) ∙ ap (λ (o : Outcome). written (settled p o)) (sym e)
 
 -- A number that is not 0 is the refusal's.
-pub admits-refused : (d : Disk) (r : Answered) (o : Outcome) → Admits d r o → (r .refusal ≡ 0 → ⊥) → o ≡ refused (r .refusal)
-admits-refused d r (refused m) h z = ap refused (sym (h .0))
-admits-refused d r (accepted e []) h z = absurd h
-admits-refused d r (accepted e (i ∷ items)) h z = absurd (z (h .0))
+pub answers-refused : (n : ℕ) (e : Disk) (o : Outcome) → Answers n e o → (n ≡ 0 → ⊥) → o ≡ refused n
+answers-refused n e (refused m) h z = ap refused (sym (h .0))
+answers-refused n e (accepted f items) h z = absurd (z (h .0))
 
 -- ---- the grants of a pass
 

@@ -6,8 +6,8 @@ use mathlib.Core.List.{List, [], _∷_, map}
 use lib.Dec.{leb, eqb}
 use lib.ListN.{length}
 use Rattle.num.specs.Opened.{openAt, setOpen}
-use Rattle.law.specs.Types.{Item, Outcome, refused, accepted}
-use Rattle.law.specs.Calls.{openDisk}
+use Rattle.law.specs.Types.{Disk as LawDisk, Item, Outcome, refused, accepted}
+use Rattle.law.specs.Calls.{item, pass, openDisk}
 use Rattle.law.specs.History.{Call, answered}
 use Rattle.law.specs.DiskType.{diskTable}
 use Rattle.part.specs.Held.{held, partFor, soundPart}
@@ -16,6 +16,7 @@ use Rattle.answer.specs.declared.Answer.the-variants as A
 use Rattle.answer.specs.declared.Refusal.{Refusal}
 use Rattle.answer.specs.declared.Refusal.the-variants as R
 use Rattle.answer.specs.Answers.{refusalOf, codeOf, answerBytes, answerSize}
+use Rattle.pass.specs.Turns.{passedOf}
 use Rattle.desk.specs.Record.{wellFormed, kindOf, diskOf as diskNumber, nowOf, callOf, usedLimit, promisedLimit}
 use Rattle.desk.specs.Board.{disks, boardBytes, partOf, withPart}
 
@@ -63,6 +64,10 @@ refusing s r = telling s (refuses r)
 abbrev pub settled : List ℕ → Outcome → Told
 settled p (refused n) = refusing p (refusalOf n)
 settled p (accepted d items) = telling (partFor d) (tells items)
+
+-- A release whose claim has ended, which leaves the disk e: its ticket, and the pass over e.
+unfoldable pub released : LawDisk → ℕ → Outcome
+released e n = accepted (passedOf e) (item 2 n ∷ pass diskTable (e .core) (e .waiting) .items)
 
 unfoldable pub serveOf : List ℕ → Call → Told
 serveOf p k = cond (soundPart p) (settled p (answered diskTable (held p) k)) (refusing p R.Unsound)

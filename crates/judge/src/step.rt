@@ -1,18 +1,18 @@
-// The decision on a claim, as lock's, with the claims of the disk read where they stand in its part.
+// The decision on a claim: three walks over the claims of the disk, which are read where they stand in its part.
 
 ghost use mathlib.Core.Path.{_≡_};
 ghost use Prim.Native.Nat.{_≤_};
 ghost use lib.ListN.{length, take};
-ghost use Rattle.lock.specs.Loops.{coreOf, DecidedIs};
+ghost use Rattle.lock.specs.Pairs.{coreOf};
 ghost use Rattle.rules.specs.Disks.{figuresIn, Good};
 ghost use Rattle.part.specs.Layout.{decode};
+ghost use Rattle.judge.specs.Decisions.{DecidedIs};
 use law::Claim;
 use lock::figures::limit;
 use lock::figures::preconditions;
 use lock::figures::start;
 use lock::method::TABLE;
 use lock::method::is_reading;
-use lock::step::Decided;
 use lock::step::add_part;
 use lock::step::bars;
 use lock::step::cost;
@@ -27,8 +27,15 @@ use part::read::promised_at;
 use part::read::used_at;
 use part::read::waiting_at;
 
-// The decision on c at a second behind the first waiting ones. The active adds are summed up; then preconditions, barring
-// by one ahead, the lock step and the place.
+// What the decision comes to: whether the claim is granted, and then the total; 0 where it is not.
+pub struct Decided {
+    pub ok: bool,
+    pub total: u64,
+}
+
+// The decision on c at a second behind the first waiting ones. The active adds are summed up; then preconditions, barring by
+// one ahead, the lock step (the starting amount and what each active claim adds, no entry N, each active reading within its
+// own limit) and the place.
 pub fn decide(s: &[u8], ahead: usize, c: Claim, second: u32) -> Decided
     requires { ⌜ length (now s) ≡ 768 ⌝ }
     requires { ⌜ Good (decode (now s)) ⌝ }

@@ -1,4 +1,3 @@
 pub mod MethodLaws
 pub mod RuleLaws
-pub mod LoopLaws
-pub mod DecideLaws
+pub mod EntryLaws

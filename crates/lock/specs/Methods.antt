@@ -1,15 +1,14 @@
 -- What the code says of a method and of one claim, over the law's kinds.
 use Prim.Native.Nat.{ℕ, _+_}
-use mathlib.Core.Bool.{Bool, true, false, cond}
-use mathlib.Core.List.{List, [], _∷_}
-use lib.Dec.{leb, ltb, eqb}
+use mathlib.Core.Bool.{Bool, true, false}
+use mathlib.Core.List.{[], _∷_}
+use lib.Dec.{leb}
 use lib.IntN.{ℤ}
 use Rattle.num.specs.Metric.{size}
 use Rattle.law.specs.declared.Attr.{Attr}
 use Rattle.law.specs.declared.Claim.{Claim}
 use Rattle.law.specs.Base.{allTrue}
 use Rattle.law.specs.Types.{mostValue, Attribute, a0, a1, a2, Kind, sets, adds, reads, Figures, attr, Core}
-use Rattle.law.specs.Readings.{carried}
 use Rattle.law.specs.Entries.{kindAt}
 use Rattle.law.specs.Granting.{fresh, addable, bearable}
 use Rattle.law.specs.DiskType.{diskTable}

@@ -1,6 +1,5 @@
-// The decision on a claim, in code: what a method reads and writes, preconditions, lock step and
-// barring, each equal to the law's definition of the same name. Leaves take claims and numbers, never
-// a list; the loops over the claims go by direct index with numbers as their state.
+// The rules of one claim and of two, in code: what a method reads and writes, preconditions, and what an entry lets pass, costs
+// and raises. Leaves take claims and numbers, never a list; the walks over the claims of a disk are the judge's.
 
 pub mod figures;
 pub mod method;

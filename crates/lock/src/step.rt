@@ -1,34 +1,21 @@
-// The decision on a claim: what two claims have to do with each other, and three walks over the claims
-// of a disk.
+// What two claims have to do with each other: their entry, what it lets pass, costs and raises, and barring.
 
 ghost use mathlib.Core.Path.{_≡_};
 ghost use Prim.Native.Nat.{_≤_, _<_};
-ghost use lib.ListN.{take};
 ghost use Rattle.law.specs.Entries.{entryBy, kindAt, isAlways};
 ghost use Rattle.law.specs.DiskType.{diskTable};
 ghost use Rattle.law.specs.TableLaws.{entryAt};
-ghost use Rattle.claims.specs.Rows.{Row};
 ghost use Rattle.lock.specs.Methods.{figuresOf};
-ghost use Rattle.lock.specs.Loops.{coreOf, addOf, indexOf, letsBy, costBetween, raiseOf, barsBy, DecidedIs};
+ghost use Rattle.lock.specs.Pairs.{addOf, indexOf, letsBy, costBetween, raiseOf, barsBy};
 use crate::figures::gap_of;
-use crate::figures::limit;
 use crate::figures::preconditions;
-use crate::figures::start;
 use crate::method::METHODS;
-use crate::method::TABLE;
 use crate::method::is_add;
-use crate::method::is_reading;
 use law::Attr;
 use law::Claim;
 use law::Entry;
 use num::signed::gap;
 use num::signed::size;
-
-// What the decision comes to: whether the claim is granted, and then the total; 0 where it is not.
-pub struct Decided {
-    pub ok: bool,
-    pub total: u64,
-}
 
 // |d| of a claim that adds, 0 of any other.
 pub fn add_part(x: Claim) -> u64
@@ -143,83 +130,4 @@ pub fn bars(
         return false;
     }
     preconditions(w, now, adds, used, promised, state)
-}
-
-// The decision on c behind the first waiting ones. The active adds are summed up; then preconditions, barring by one
-// ahead, the lock step (the starting amount and what each active claim adds, no entry N, each active reading within its
-// own limit) and the place. The walks stand in one function: a call with a list would copy it.
-pub fn decide(
-    active: [Claim; 8],
-    n: usize,
-    waiting: [Claim; 8],
-    ahead: usize,
-    c: Claim,
-    now: u32,
-    used: Attr,
-    promised: Attr,
-    state: Attr,
-) -> Decided
-    requires { ⌜ Row active n ⌝ }
-    requires { ⌜ ahead ≤ 8 ⌝ }
-    ensures { λ r. ⌜ DecidedIs (r .ok) (r .total) (coreOf (figuresOf used promised state) now (take n active)) (take ahead waiting) c ⌝ }
-{
-    let table = TABLE;
-    let m = c.method;
-    let col = index_of(m);
-    let mut adds: u64 = 0;
-    let mut h: usize = 0;
-    while h < n {
-        let x = active[h];
-        adds = adds + add_part(x);
-        h += 1;
-    }
-    if !preconditions(c, now, adds, used, promised, state) {
-        return Decided {
-            ok: false,
-            total: 0,
-        };
-    }
-    let mut j: usize = 0;
-    while j < ahead {
-        let w = waiting[j];
-        let row = index_of(w.method);
-        let found = table[row][col];
-        let e = entry(w.method, m, found);
-        if bars(w, e, c.priority, now, adds, used, promised, state) {
-            return Decided {
-                ok: false,
-                total: 0,
-            };
-        }
-        j += 1;
-    }
-    let reading = is_reading(m);
-    let raise = raise_of(c, used, promised, state);
-    let most = limit(m, c.error, used, promised, state) as u64;
-    let mut total = start(m, c.error, used, promised, state);
-    let mut i: usize = 0;
-    while i < n {
-        let x = active[i];
-        let row = index_of(x.method);
-        let found = table[row][col];
-        let e = entry(x.method, m, found);
-        if lets(e, reading, x.amount, x.error, raise) {
-            total = total + cost(e, reading, c, x, used, promised, state);
-            i += 1;
-        } else {
-            return Decided {
-                ok: false,
-                total: 0,
-            };
-        }
-    }
-    if n < 8 {
-        if total <= most {
-            return Decided { ok: true, total };
-        }
-    }
-    Decided {
-        ok: false,
-        total: 0,
-    }
 }

@@ -11,9 +11,9 @@ use lib.Dec.{eqb, eqb·suc-zero}
 use lib.ListN.{length, take, drop, getD}
 use lib.Seq.{drop-cons, drop-drop, take-add, getD-take, getD-drop, getD-append-add, ext-getD}
 use borrow.Author.Tests.{eqb-true, ne-eqb}
-use Rattle.num.specs.Word.{word4, wordAt, putWord, Bytes}
-use Rattle.num.specs.Runs.{le4, flat, splice, allZero}
-use Rattle.num.specs.RunLaws.{length-le4, word-le4, put-splice, splice-splice}
+use Rattle.num.specs.Word.{word4, wordAt, Bytes}
+use Rattle.num.specs.Runs.{le4, flat, allZero}
+use Rattle.num.specs.RunLaws.{length-le4, word-le4}
 use Rattle.law.specs.Lists.{and-left, and-right}
 use Rattle.part.specs.Layout.{zeroAt}
 
@@ -215,12 +215,3 @@ unfolding allZero
 zero-end s a i to h =
     let none : to - i ≡ 0 = omega arith in
     rw none (sym (and-true (eqb a 0)))
-
--- Three words put one behind the other from the front.
-pub three-words : (s : List ℕ) (x y z : ℕ) → putWord (putWord (putWord s 0 x) 4 y) 8 z ≡ splice s 0 (flat (x ∷ y ∷ z ∷ []))
-unfolding flat le4
-three-words s x y z =
-    ap (λ (r : List ℕ). putWord (putWord r 4 y) 8 z) (put-splice s 0 x)
-    ∙ ap (λ (r : List ℕ). putWord r 8 z) (put-splice (splice s 0 (le4 x)) 4 y ∙ splice-splice s 0 4 (le4 x) (le4 y) refl)
-    ∙ put-splice (splice s 0 (le4 x ++ le4 y)) 8 z
-    ∙ splice-splice s 0 8 (le4 x ++ le4 y) (le4 z) refl

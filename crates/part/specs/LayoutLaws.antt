@@ -13,16 +13,16 @@ use Rattle.num.specs.Word.{wordAt, putWord, Bytes}
 use Rattle.num.specs.WordLaws.{word-at-fits}
 use Rattle.num.specs.Signed.{signedOf, wordOf, signed-word, word-signed, word-fits, signed-fits}
 use Rattle.num.specs.Runs.{le4, flat, splice, allZero}
-use Rattle.num.specs.RunLaws.{length-le4, length-flat, flat-append, put-splice, splice-first, splice-second, splice-splice, splice-whole}
+use Rattle.num.specs.RunLaws.{length-le4, length-flat, put-splice, splice-first, splice-second, splice-splice, splice-whole}
 use Rattle.law.specs.declared.Attr.{Attr}
 use Rattle.law.specs.declared.Claim.{Claim}
 use Rattle.law.specs.Lists.{Passed, passed, all-passed}
 use Rattle.claims.specs.Rows.{noClaim, Row}
 use Rattle.rules.specs.declared.disk.Disk.{Disk}
 use Rattle.rules.specs.Disks.{Good}
-use Rattle.part.specs.Layout.{claimWords, slots, inSlots, attrAt, stateAt, headWords, decode, encode, zeroAt, spareZero, slotsWhole, decodes, AttrFits, StateFits, ClaimsFit, DiskFits}
+use Rattle.part.specs.Layout.{slots, inSlots, attrAt, stateAt, headWords, decode, encode, zeroAt, spareZero, slotsWhole, decodes, AttrFits, StateFits, ClaimsFit, DiskFits}
 use Rattle.part.specs.ByteLaws.{wordsFrom, flat-words, word-flat, bytes-append, bytes-drop, bytes-flat, zero-byte, zero-same, word-none}
-use Rattle.part.specs.SlotLaws.{length-slots, length-slot, length-in-slots, put-in-slot, slots-append, slots-back, slots-whole, slots-none, none-at, none-zero, in-slots-append, put-whole, bytes-slots, slots-fit}
+use Rattle.part.specs.SlotLaws.{length-slots, length-in-slots, slots-append, slots-back, slots-whole, slots-none, none-at, none-zero, in-slots-append, put-whole, bytes-slots, slots-fit}
 
 -- ---- lengths
 
@@ -283,51 +283,7 @@ decode-fits s b =
       waiting = claims-fit (drop 416 s) (bytes-drop 416 s b);
     }
 
--- ---- a part with one more active claim
-
--- The disk with another clock and next ticket, and the claim c as its n-th active one.
-abbrev pub withClaim : Disk → ℕ → ℕ → ℕ → Claim → Disk
-withClaim d clock next n c =
-    record {
-      clock = clock;
-      next = next;
-      actives = n + 1;
-      waitings = d .waitings;
-      used = d .used;
-      promised = d .promised;
-      state = d .state;
-      active = set (d .active) n c;
-      waiting = d .waiting;
-    }
-
--- Three words of the head and one slot are all that changes.
-pub put-one-claim : (d : Disk) (clock next n : ℕ) (c : Claim) → n < length (d .active) →
-    splice (splice (encode d) 0 (flat (clock ∷ next ∷ (n + 1) ∷ []))) (64 + 44 * n) (flat (claimWords c)) ≡ encode (withClaim d clock next n c)
-unfolding encode headWords
-put-one-claim d clock next n c h =
-    let new = withClaim d clock next n c in
-    let old = d .clock ∷ d .next ∷ d .actives ∷ [] in
-    let put = clock ∷ next ∷ (n + 1) ∷ [] in
-    let rest = drop 3 (headWords d) in
-    let same : length (flat old) ≡ length (flat put) = length-flat old ∙ sym (length-flat put) in
-    let head : splice (flat (headWords d)) 0 (flat put) ≡ flat (headWords new) =
-    ap (λ (r : List ℕ). splice r 0 (flat put)) (flat-append old rest)
-    ∙ splice-first (flat old) (flat rest) 0 (flat put) (omega (arith, same))
-    ∙ ap (λ (r : List ℕ). r ++ flat rest) (splice-whole (flat old) (flat put) same)
-    ∙ sym (flat-append put rest) in
-    ap (λ (r : List ℕ). splice r (64 + 44 * n) (flat (claimWords c)))
-    (splice-first (flat (headWords d)) (inSlots (d .active) ++ inSlots (d .waiting)) 0 (flat (clock ∷ next ∷ (n + 1) ∷ []))
-    (omega (arith, length-head d, length-flat (clock ∷ next ∷ (n + 1) ∷ [])))
-    ∙ ap (λ (r : List ℕ). r ++ (inSlots (d .active) ++ inSlots (d .waiting))) head)
-    ∙ ap (λ (k : ℕ). splice (flat (headWords new) ++ (inSlots (d .active) ++ inSlots (d .waiting))) (k + 44 * n) (flat (claimWords c)))
-    (sym (length-head new))
-    ∙ splice-second (flat (headWords new)) (inSlots (d .active) ++ inSlots (d .waiting)) (44 * n) (flat (claimWords c))
-    ∙ ap (λ (r : List ℕ). flat (headWords new) ++ r)
-    (splice-first (inSlots (d .active)) (inSlots (d .waiting)) (44 * n) (flat (claimWords c))
-    (omega (arith, length-in-slots (d .active), length-slot c))
-    ∙ ap (λ (r : List ℕ). r ++ inSlots (d .waiting)) (put-in-slot (d .active) n c h))
-
--- ---- a word of the head, and one list, put into the part of a disk
+-- ---- a word of the head, and the active claims, put into the part of a disk
 
 -- A word put among words.
 put-in-words : (ws : List ℕ) (i x : ℕ) → i < length ws → splice (flat ws) (4 * i) (le4 x) ≡ flat (set ws i x)
@@ -363,14 +319,3 @@ put-active ws active waiting new n e =
     (splice-first (inSlots active) (inSlots waiting) 0 (inSlots new) (omega (arith, length-in-slots active, length-in-slots new, e))
     ∙ ap (λ (r : List ℕ). r ++ inSlots waiting)
     (splice-whole (inSlots active) (inSlots new) (omega (arith, length-in-slots active, length-in-slots new, e))))
-
-pub put-waiting-slot : (ws : List ℕ) (active waiting : List Claim) (i : ℕ) (c : Claim) → length ws ≡ 16 → length active ≡ 8 → i < length waiting →
-    splice (partWith ws active waiting) (416 + 44 * i) (flat (claimWords c)) ≡ partWith ws active (set waiting i c)
-put-waiting-slot ws active waiting i c n m h =
-    let e : 416 + 44 * i ≡ length (flat ws) + (length (inSlots active) + 44 * i) =
-    omega (arith, length-flat ws, length-in-slots active) in
-    ap (λ (k : ℕ). splice (partWith ws active waiting) k (flat (claimWords c))) e
-    ∙ splice-second (flat ws) (inSlots active ++ inSlots waiting) (length (inSlots active) + 44 * i) (flat (claimWords c))
-    ∙ ap (λ (r : List ℕ). flat ws ++ r)
-    (splice-second (inSlots active) (inSlots waiting) (44 * i) (flat (claimWords c))
-    ∙ ap (λ (r : List ℕ). inSlots active ++ r) (put-in-slot waiting i c h))

@@ -1,26 +1,27 @@
 -- Laws of parts: a sound disk has a part, which holds it; a sound part is that of the disk that it holds.
 use Prim.Native.Nat.{ℕ, _+_, _-_, _^_, _≤_, _<_}
 use mathlib.Core.Bool.{Bool, true, false}
-use mathlib.Core.List.{List, _++_}
+use mathlib.Core.List.{List}
 use mathlib.Core.Path.{_≡_, refl, sym, ap, _∙_}
 use native.Mathlib.Omega.{arith}
 use borrow.Author.Tests.{ltb-true, ltb-false}
 use lib.Dec.{ltb}
-use lib.ListN.{length, take, getD, replicate, length-append, length-replicate, getD-replicate, List·getD-append, List·getD-eq-default}
+use lib.ListN.{length, getD, replicate, length-append, length-replicate, getD-replicate, List·getD-append, List·getD-eq-default}
 use lib.Seq.{getD-append-add, take-append-seam}
 use Rattle.num.specs.Word.{Bytes}
 use Rattle.claims.specs.Rows.{Row, noClaim}
 use Rattle.law.specs.declared.Claim.{Claim}
 use Rattle.law.specs.Lists.{All, all-at, and-left, and-right}
-use Rattle.law.specs.Types.{a0, a1, a2, places, Core, Disk as LawDisk}
+use Rattle.law.specs.Types.{a0, a1, a2, places, Disk as LawDisk}
 use Rattle.law.specs.Sound.{Sound, sound}
 use Rattle.law.specs.SoundTest.{says-sound}
 use Rattle.law.specs.DiskType.{diskTable}
 use Rattle.rules.specs.declared.disk.Disk.{Disk}
-use Rattle.rules.specs.Disks.{diskOf, Good, DiskIs, padded, byValue}
-use Rattle.rules.specs.AnswerLaws.{by-value}
+use Rattle.rules.specs.Disks.{diskOf, DiskIs, padded, byValue}
+use Rattle.rules.specs.DiskLaws.{by-value}
 use Rattle.part.specs.Layout.{partBytes, decode, encode, decodes, ClaimFits, ClaimsFit, DiskFits}
-use Rattle.part.specs.LayoutLaws.{length-encode, decode-encode, encode-decode, decode-good, encode-decodes, encode-bytes, decode-fits}
+use Rattle.part.specs.SlotLaws.{none-fits}
+use Rattle.part.specs.LayoutLaws.{length-encode, decode-encode, encode-decode, decode-good, encode-decodes, encode-bytes}
 use Rattle.part.specs.Held.{held, partFor, soundPart}
 use Rattle.part.specs.RangeLaws.{active-fits, waiting-fits, attr-fits}
 
@@ -47,20 +48,6 @@ module _ (ws : List Claim) (few : length ws ≤ places) where
 
   padded-row : Row (padded ws) (length ws)
   padded-row = record { room = length-padded; few = few; clear = behind }
-
-  none-fits : ClaimFits noClaim
-  none-fits =
-      record {
-        ticket = omega arith;
-        method = omega arith;
-        priority = omega arith;
-        flag = omega arith;
-        measured = omega arith;
-        value = omega arith;
-        error = omega arith;
-        told = omega arith;
-        amount = omega arith;
-      }
 
   padded-fits : All ClaimFits ws → ClaimsFit (padded ws)
   padded-fits h = record { room = length-padded; each = λ k. go k (ltb k (length ws)) refl }
@@ -148,10 +135,6 @@ unfolding partFor
 part-held p b n h =
     ap encode (sym (by-value {e = decode p} {f = held p} (record { good = decode-good p n (sound-decodes p h); is = refl })))
     ∙ encode-decode p b n (sound-decodes p h)
-
--- Its clock is a word.
-pub held-clock : (p : List ℕ) → Bytes p → held p .core .clock < 2 ^ 32
-held-clock p b = decode-fits p b .clock
 
 -- ---- any part that is made
 

@@ -1,20 +1,19 @@
 -- Laws of ranges: what a sound disk holds has a place in a part.
-use Prim.Native.Nat.{ℕ, _+_, _^_, _≤_, _<_}
+use Prim.Native.Nat.{ℕ, _^_, _≤_, _<_}
 use mathlib.Core.List.{List, [], _∷_}
 use mathlib.Core.Path.{_≡_, refl, ap}
 use native.Mathlib.Omega.{arith}
-use lib.IntN.{ℤ, pos}
+use lib.IntN.{ℤ}
 use lib.ListN.{length}
 use lib.Signed.{mag}
 use mir.Syntax.{w32}
 use Rattle.num.specs.Metric.{size}
 use Rattle.num.specs.Fits.{size-fits}
-use Rattle.law.specs.declared.Attr.{Attr}
 use Rattle.law.specs.declared.Claim.{Claim}
-use Rattle.law.specs.Lists.{All, all-both, all-left, all-right}
-use Rattle.law.specs.Types.{mostError, lastTicket, Attribute, a0, a1, a2, Kind, sets, adds, reads, Figures, attr, Disk as LawDisk}
+use Rattle.law.specs.Lists.{All, all-left, all-right}
+use Rattle.law.specs.Types.{mostError, Attribute, Kind, sets, adds, reads, attr, Disk as LawDisk}
 use Rattle.law.specs.Entries.{kindOf}
-use Rattle.law.specs.Sound.{Bare, BareBy, ReadingBy, LimitFits, Formed, Passes, Sound}
+use Rattle.law.specs.Sound.{Bare, BareBy, ReadingBy, Formed, Passes, Sound}
 use Rattle.law.specs.DiskType.{diskTable}
 use Rattle.rules.proofs.RangeLaws.{limit-most, error-most, value-size, fields-size}
 use Rattle.part.specs.Layout.{ClaimFits, AttrFits}

@@ -293,7 +293,7 @@ claim-fits x b =
       amount = word-at-fits x 32 b;
     }
 
-none-fits : ClaimFits noClaim
+pub none-fits : ClaimFits noClaim
 none-fits =
     record {
       ticket = omega arith;

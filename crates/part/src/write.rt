@@ -1,6 +1,5 @@
 // The part that holds a disk by value.
 
-ghost use mathlib.Core.List.{[], _∷_};
 ghost use mathlib.Core.Path.{_≡_};
 ghost use Prim.Native.Nat.{_+_, _*_, _≤_, _<_};
 ghost use lib.ListN.{length};
@@ -99,16 +98,4 @@ fn put_words(s: &mut [u8], at: usize, words: &[u32])
         put_word(s, at + 4 * j, words[j]);
         j += 1;
     }
-}
-
-// Puts a claim behind the n active ones of a part, with another clock and next ticket: nothing else changes.
-pub fn put_granted(s: &mut [u8], clock: u32, next: u32, n: u32, c: Claim)
-    requires { ⌜ length (now s) ≡ 768 ⌝ }
-    requires { ⌜ n < 8 ⌝ }
-    ensures { λ _. ⌜ now (s .exit) ≡ splice (splice (now (s .entry)) 0 (flat (clock ∷ next ∷ (n + 1) ∷ []))) (64 + 44 * n) (flat (claimWords c)) ⌝ }
-{
-    put_word(s, 0, clock);
-    put_word(s, 4, next);
-    put_word(s, 8, n + 1);
-    put_claim(s, 64 + 44 * n as usize, c);
 }

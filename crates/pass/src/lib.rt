@@ -12,7 +12,7 @@ ghost use Rattle.law.specs.DiskType.{diskTable};
 ghost use Rattle.rules.specs.Disks.{Good, DiskIs};
 ghost use Rattle.part.specs.Layout.{decode, decodes};
 ghost use Rattle.part.specs.Held.{held, partFor};
-ghost use Rattle.answer.specs.Answers.{Behind};
+ghost use Rattle.answer.specs.Answers.{OwnOnly, Behind};
 ghost use Rattle.place.specs.Holding.{Holds};
 ghost use Rattle.pass.specs.Turns.{grantAnswer, TurnFits, Turned, closedAt, passedOf};
 use answer::put_grant;
@@ -69,12 +69,13 @@ fn close(s: &mut [u8], k: usize, n: usize)
     put_word(s, 12, k as u32);
 }
 
-// The pass. Of the i claims looked at, k still wait and stand in front.
+// The pass, behind the one answer in the buffer. Of the i claims looked at, k still wait and stand in front.
 pub fn pass(s: &mut [u8], answer: &mut [u8])
     requires { ⌜ length (now s) ≡ 768 ⌝ }
     requires { ⌜ decodes (now s) ≡ true ⌝ }
     requires { ⌜ Sound diskTable (held (now s)) ⌝ }
     requires { ⌜ length (now answer) ≡ 144 ⌝ }
+    requires { ⌜ OwnOnly (now answer) ⌝ }
     ensures { λ _. ⌜ now (s .exit) ≡ partFor (passedOf (held (now (s .entry)))) ⌝ }
     ensures { λ _. ⌜ Behind (now (answer .entry)) (map grantAnswer (lawPass diskTable (held (now (s .entry)) .core) (held (now (s .entry)) .waiting) .items)) (now (answer .exit)) ⌝ }
 {

@@ -1,4 +1,4 @@
--- Laws of a grant on a part: the total noted in the head, the readings raised, and what is left of the law.
+-- Laws of a grant on a part: the total noted in the head, the claim behind the active ones, and the disk that is left.
 use Prim.Native.Nat.{ℕ, zero, suc, _+_, _^_, _≤_, _<_}
 use mathlib.Core.Bool.{true, false}
 use mathlib.Core.List.{List}
@@ -12,22 +12,19 @@ use Rattle.law.specs.declared.Attr.{Attr}
 use Rattle.law.specs.declared.Claim.{Claim}
 use Rattle.law.specs.Types.{Figures, sets, a2}
 use Rattle.law.specs.Entries.{kindAt, kindOf}
-use Rattle.law.specs.Granting.{limitBy, tellBy, noteBy, withAmount, putTold, gap, total}
+use Rattle.law.specs.Granting.{limitBy, tellBy, noteBy, withAmount, putTold, total}
 use Rattle.law.specs.GrantLaws.{MayGrant}
 use Rattle.law.specs.DiskType.{diskTable}
 use Rattle.lock.specs.Methods.{isReading}
 use Rattle.rules.specs.declared.disk.Disk.{Disk}
-use Rattle.rules.specs.Disks.{figuresIn, coreIn, diskOf, Good, DiskIs, withFigures, withActive, noteOf, raisedOf, grantOf}
-use Rattle.rules.proofs.ChangeLaws.{raise-lets, raised-all, grant-reading, grant-write}
+use Rattle.rules.specs.Disks.{figuresIn, coreIn, diskOf, Good, DiskIs, grantOf}
 use Rattle.part.specs.Layout.{slots, headWords, decode, AttrFits}
-use Rattle.slots.specs.Slots.{Kept, Raisable, mapTo, raiseWith}
-use Rattle.place.specs.Holding.{Holds, NoteFits, numbered, withLast}
+use Rattle.slots.specs.Slots.{Kept}
+use Rattle.place.specs.Holding.{Holds, NoteFits, numbered, withFigures, withActive, withLast, noted, raisedOf}
 use Rattle.place.specs.HoldingLaws.{holds-decode, holds-self, put-active-run, put-actives, put-figure}
+use Rattle.place.proofs.ChangeLaws.{grant-reading, grant-write}
 
 -- ---- the noted total
-
-abbrev pub noted : Disk → ℕ → ℕ → Disk
-noted d m total = withFigures d (noteBy (figuresIn d) (kindAt diskTable m) total)
 
 amount-fits : {a : Attr} {n : ℕ} → AttrFits a → n < 2 ^ 32 → AttrFits (withAmount a n)
 amount-fits f l = record { value = f .value; stamp = f .stamp; amount = l; limit = f .limit }
@@ -71,19 +68,6 @@ module _ {s : List ℕ} {d : Disk} (h : Holds s d) (m total : ℕ) (l : total < 
       go (suc (suc (suc (suc (suc (suc zero)))))) f k = h
       go (suc (suc (suc (suc (suc (suc (suc m))))))) f k = h
 
--- ---- the readings raised
-
-module _ (d : Disk) (c : Claim) (good : Good d) (may : MayGrant diskTable (coreIn d) c)
-    (writes : isReading (kindAt diskTable (c .method)) ≡ false) where
-  abbrev raise : ℕ
-  raise = c .error + gap diskTable (coreIn d) c
-
-  pub raisable : Raisable (d .active) (d .actives) (c .method) raise
-  raisable i l = raise-lets d c good may writes i l
-
-  pub raises : withActive d (mapTo (d .actives) (raiseWith (c .method) raise) (d .active)) ≡ raisedOf d c
-  raises = sym (raised-all d c writes)
-
 -- ---- the claim behind the active ones
 
 pub last-holds : {s : List ℕ} {d : Disk} → Holds s d → {n : ℕ} (c : Claim) → n < 8 → {row : List ℕ} → Kept row → slots 8 row ≡ set (d .active) n c →
@@ -120,9 +104,8 @@ module _ (d : Disk) (c : Claim) (good : Good d) (may : MayGrant diskTable (coreI
   pub write-grants : isReading (kindAt diskTable (c .method)) ≡ false → {n sum : ℕ} → n ≡ d .actives → sum ≡ total diskTable (coreIn d) c →
       {s t u : List ℕ} → Holds s (raisedOf d c) → Holds t (noted (decode s) (c .method) sum) → Holds u (withLast (decode t) n (putTold c (pos 0) 0)) →
       Grants u d c
-  unfolding noteOf
   write-grants r {n} {sum} p e {s} {t} {u} raises notes puts =
-      let second : Holds t (noteOf (raisedOf d c) c sum) = subst (λ (x : Disk). Holds t (noted x (c .method) sum)) (holds-decode raises) notes in
-      let third : Holds u (withLast (noteOf (raisedOf d c) c sum) n (putTold c (pos 0) 0)) =
+      let second : Holds t (noted (raisedOf d c) (c .method) sum) = subst (λ (x : Disk). Holds t (noted x (c .method) sum)) (holds-decode raises) notes in
+      let third : Holds u (withLast (noted (raisedOf d c) (c .method) sum) n (putTold c (pos 0) 0)) =
       subst (λ (x : Disk). Holds u (withLast x n (putTold c (pos 0) 0))) (holds-decode second) puts in
       grants d c third (rw (p, e) (grant-write d c good may r))

@@ -4,7 +4,7 @@ use mathlib.Core.List.{List}
 use mathlib.Core.Path.{_≡_, refl, sym, ap, _∙_, subst}
 use native.Mathlib.Omega.{arith}
 use lib.IntN.{ℤ, _+ℤ_}
-use lib.ListN.{length, take, getD}
+use lib.ListN.{take, getD}
 use lib.Seq.{getD-take}
 use lib.Signed.{mag}
 use Rattle.num.specs.Word.{putWord}
@@ -12,19 +12,18 @@ use Rattle.num.specs.Runs.{splice}
 use Rattle.num.specs.Signed.{wordOf, putSigned}
 use Rattle.law.specs.declared.Attr.{Attr}
 use Rattle.law.specs.declared.Claim.{Claim}
-use Rattle.law.specs.Types.{Figures}
 use Rattle.law.specs.Calls.{queue}
 use Rattle.law.specs.DiskType.{diskTable}
-use Rattle.claims.specs.Rows.{Row, RowIs, noClaim, removeAt}
+use Rattle.claims.specs.Rows.{RowIs, noClaim, removeAt}
 use Rattle.rules.specs.declared.disk.Disk.{Disk}
 use Rattle.rules.specs.Answers.{endedAt, leftAt, waitingOf}
-use Rattle.rules.specs.Disks.{figuresIn, diskOf, Good, DiskIs, withFigures, withActive, landOf}
-use Rattle.rules.proofs.ChangeLaws.{land-at, land-none}
+use Rattle.rules.specs.Disks.{figuresIn, diskOf, Good}
 use Rattle.part.specs.Held.{partFor}
 use Rattle.part.specs.Layout.{slots, headWords, AttrFits, StateFits}
 use Rattle.slots.specs.Slots.{Kept}
-use Rattle.place.specs.Holding.{Holds, withWaiting, numbered}
+use Rattle.place.specs.Holding.{Holds, withFigures, landOf}
 use Rattle.place.specs.HoldingLaws.{holds-part, put-active-run, put-waiting-run, put-clock, put-next, put-actives, put-waitings, put-figure}
+use Rattle.place.proofs.ChangeLaws.{land-at, land-none}
 
 -- ---- what lands in the figures
 

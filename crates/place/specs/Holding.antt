@@ -1,17 +1,53 @@
 -- The disk by value that a part holds while it is changed, and the changes.
-use Prim.Native.Nat.{ℕ, _+_}
-use mathlib.Core.List.{List}
+use Prim.Native.Nat.{ℕ, _+_, _≤_}
+use mathlib.Core.List.{List, _++_, map}
 use mathlib.Core.Path.{_≡_}
-use lib.ListN.{set}
+use lib.ListN.{take, drop, set}
+use Rattle.num.specs.Metric.{size}
 use Rattle.law.specs.declared.Claim.{Claim}
+use Rattle.law.specs.Types.{Figures}
+use Rattle.law.specs.Entries.{kindAt, kindOf}
+use Rattle.law.specs.Granting.{noteBy, raised}
+use Rattle.law.specs.Calls.{landBy}
+use Rattle.law.specs.DiskType.{diskTable}
 use Rattle.rules.specs.declared.disk.Disk.{Disk}
-use Rattle.rules.specs.Disks.{withActive}
+use Rattle.rules.specs.Disks.{figuresIn, coreIn}
 use Rattle.part.specs.Layout.{encode, DiskFits}
 
 -- The part s is that of the disk by value d, and every figure has its place.
 pub record Holds (s : List ℕ) (d : Disk) : Type 0 where
   pub is : s ≡ encode d
   pub fits : DiskFits d
+
+-- The disk with other figures.
+abbrev pub withFigures : Disk → Figures → Disk
+withFigures d f =
+    record {
+      clock = d .clock;
+      next = d .next;
+      actives = d .actives;
+      waitings = d .waitings;
+      used = f .f0;
+      promised = f .f1;
+      state = f .f2;
+      active = d .active;
+      waiting = d .waiting;
+    }
+
+-- The disk with another array of active claims.
+abbrev pub withActive : Disk → List Claim → Disk
+withActive d a =
+    record {
+      clock = d .clock;
+      next = d .next;
+      actives = d .actives;
+      waitings = d .waitings;
+      used = d .used;
+      promised = d .promised;
+      state = d .state;
+      active = a;
+      waiting = d .waiting;
+    }
 
 -- The disk with other numbers in its head: clock, next ticket, and the two counts.
 abbrev pub numbered : Disk → ℕ → ℕ → ℕ → ℕ → Disk
@@ -51,6 +87,25 @@ withLast d n c = numbered (withActive d (set (d .active) n c)) (d .clock) (d .ne
 abbrev pub clocked : Disk → ℕ → ℕ → Disk
 clocked d second next = numbered d second next (d .actives) (d .waitings)
 
+-- ---- what ends and what is granted
+
+-- The end of the active claim w, in the figures.
+unfoldable pub landOf : Disk → Claim → Disk
+landOf d w = withFigures d (landBy (figuresIn d) (kindOf diskTable w) w)
+
+-- An add that lands fits: the sum of the two sizes is in range.
+abbrev pub LandFits : Disk → Claim → Type 0
+LandFits d w = size (d .promised .value) + size (w .value) ≤ 2_000_000_000
+
+-- The total of a granted write of method m noted.
+abbrev pub noted : Disk → ℕ → ℕ → Disk
+noted d m total = withFigures d (noteBy (figuresIn d) (kindAt diskTable m) total)
+
 -- A total has a place where it is noted: the state has none, so that its total is 0.
 abbrev pub NoteFits : ℕ → ℕ → Type 0
 NoteFits m total = m ≡ 3 → total ≡ 0
+
+-- Every active claim raised by the grant of c; the places behind them stay.
+unfoldable pub raisedOf : Disk → Claim → Disk
+raisedOf d c =
+    withActive d (map (raised diskTable (coreIn d) c) (take (d .actives) (d .active)) ++ drop (d .actives) (d .active))

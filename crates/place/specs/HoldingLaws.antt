@@ -1,7 +1,7 @@
 -- Laws of a part that holds a disk: it is read back; a word of the head, the active slots or the waiting ones put into it.
-use Prim.Native.Nat.{ℕ, _+_, _*_, _^_, _≤_, _<_}
+use Prim.Native.Nat.{ℕ, _+_, _*_, _^_, _<_}
 use mathlib.Core.Bool.{true}
-use mathlib.Core.List.{List, [], _++_}
+use mathlib.Core.List.{List, _++_}
 use mathlib.Core.Path.{_≡_, refl, sym, ap, _∙_}
 use native.Mathlib.Omega.{arith}
 use lib.ListN.{length, take, drop, set}
@@ -12,15 +12,15 @@ use Rattle.num.specs.RunLaws.{length-flat, splice-second, splice-whole}
 use Rattle.law.specs.declared.Claim.{Claim}
 use Rattle.law.specs.Types.{Figures, Disk as LawDisk}
 use Rattle.rules.specs.declared.disk.Disk.{Disk}
-use Rattle.rules.specs.Disks.{DiskIs, withActive, withFigures}
-use Rattle.rules.specs.AnswerLaws.{by-value}
+use Rattle.rules.specs.Disks.{DiskIs}
+use Rattle.rules.specs.DiskLaws.{by-value}
 use Rattle.part.specs.Layout.{slots, inSlots, headWords, decode, encode, decodes, AttrFits, StateFits, ClaimsFit, DiskFits}
 use Rattle.part.specs.Held.{partFor}
 use Rattle.part.specs.SlotLaws.{length-slots, length-in-slots, bytes-slots, slots-fit}
 use Rattle.part.specs.LayoutLaws.{length-head, partWith, put-head-word, put-active, decode-encode, encode-decode, decode-fits}
 use Rattle.slots.specs.Slots.{Kept}
 use Rattle.slots.specs.SlotsLaws.{slots-in, kept-in}
-use Rattle.place.specs.Holding.{Holds, withWaiting, numbered}
+use Rattle.place.specs.Holding.{Holds, withFigures, withActive, withWaiting, numbered}
 
 head-size : (d : Disk) → length (headWords d) ≡ 16
 unfolding headWords

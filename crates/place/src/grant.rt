@@ -3,18 +3,18 @@
 
 ghost use mathlib.Core.Bool.{true, false};
 ghost use mathlib.Core.Path.{_≡_};
-ghost use Prim.Native.Nat.{_≤_, _<_};
+ghost use Prim.Native.Nat.{_<_};
 ghost use lib.ListN.{length};
 ghost use Rattle.law.specs.Entries.{kindAt, kindOf};
-ghost use Rattle.law.specs.Granting.{noteBy, tellBy, total as lawTotal};
+ghost use Rattle.law.specs.Granting.{tellBy, total as lawTotal};
 ghost use Rattle.law.specs.GrantLaws.{MayGrant};
 ghost use Rattle.law.specs.DiskType.{diskTable};
 ghost use Rattle.lock.specs.Methods.{isReading};
 ghost use Rattle.rules.specs.Answers.{TakesGrant, grantedOf};
-ghost use Rattle.rules.specs.Disks.{figuresIn, coreIn, diskOf, Good, DiskIs, withFigures, raisedOf, grantOf};
+ghost use Rattle.rules.specs.Disks.{figuresIn, coreIn, diskOf, Good, DiskIs, grantOf};
 ghost use Rattle.part.specs.Layout.{decode, decodes};
 ghost use Rattle.part.specs.Held.{held, partFor};
-ghost use Rattle.place.specs.Holding.{Holds, NoteFits, withLast, clocked};
+ghost use Rattle.place.specs.Holding.{Holds, NoteFits, withLast, clocked, noted, raisedOf};
 use law::Claim;
 use lock::method::is_reading;
 use lock::step::raise_of;
@@ -45,7 +45,7 @@ fn note(s: &mut [u8], m: u32, total: u32)
     requires { ⌜ length (now s) ≡ 768 ⌝ }
     requires { ⌜ Holds (now s) (decode (now s)) ⌝ }
     requires { ⌜ NoteFits m total ⌝ }
-    ensures { λ _. ⌜ Holds (now (s .exit)) (withFigures (decode (now (s .entry))) (noteBy (figuresIn (decode (now (s .entry)))) (kindAt diskTable m) total)) ⌝ }
+    ensures { λ _. ⌜ Holds (now (s .exit)) (noted (decode (now (s .entry))) m total) ⌝ }
 {
     if m == 0 {
         put_word(s, 24, total);

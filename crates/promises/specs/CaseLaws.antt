@@ -2,9 +2,9 @@
 use Prim.Native.Nat.{ℕ, _≤_, _<_, _^_}
 use mathlib.Core.Bool.{Bool, true, false, cond, not}
 use mathlib.Core.List.{List, [], _∷_}
-use mathlib.Core.Path.{_≡_, refl, sym, ap, _∙_}
+use mathlib.Core.Path.{_≡_, refl, ap, _∙_}
 use native.Mathlib.Omega.{arith}
-use borrow.Author.Tests.{leb-true, leb-false, eqb-true, eqb-false, not-false}
+use borrow.Author.Tests.{leb-true, leb-false}
 use lib.Dec.{leb, eqb}
 use lib.ListN.{length}
 use Rattle.num.specs.Word.{Bytes, wordAt}
@@ -14,7 +14,7 @@ use Rattle.law.specs.Base.{allTrue}
 use Rattle.law.specs.Lists.{passed}
 use Rattle.law.specs.Types.{mostError, Disk as LawDisk, Item, Outcome, refused, accepted}
 use Rattle.law.specs.Granting.{grant}
-use Rattle.law.specs.Calls.{item, at, opened, openDisk, pass, finish, without}
+use Rattle.law.specs.Calls.{item, at, opened, openDisk, finish, without}
 use Rattle.law.specs.Events.{After, claim-after, release-after, pass-keeps}
 use Rattle.law.specs.History.{Call as LawCall, claims, releases, answered}
 use Rattle.law.specs.SoundKept.{ReadableCall}
@@ -26,7 +26,7 @@ use Rattle.desk.specs.Record.{byteAt, wellFormed, kindFits, kindOf, diskOf, now
 use Rattle.desk.specs.Board.{disks, boardBytes, partOf, withPart}
 use Rattle.desk.specs.BoardLaws.{with-same}
 use Rattle.part.specs.Held.{held, partFor, soundPart}
-use Rattle.desk.specs.Step.{Said, refuses, tells, Told, telling, refusing, settled, serveOf, onPart, opening, onDisk, onBoard, tellOf}
+use Rattle.desk.specs.Step.{tells, telling, refusing, settled, serveOf, onPart, opening, onDisk, onBoard, tellOf}
 
 -- ---- the cases
 

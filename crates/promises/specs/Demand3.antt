@@ -3,7 +3,6 @@ use Prim.Native.Nat.{ℕ, _+_, _≤_, _<_}
 use mathlib.Core.Bool.{true, false, true≢false}
 use mathlib.Core.List.{List, [], _∷_}
 use mathlib.Core.Path.{_≡_, refl, sym, ap, subst, _∙_}
-use native.Mathlib.Omega.{arith}
 use borrow.Author.Tests.{eq-eqb, lt-leb}
 use lib.Dec.{eqb}
 use lib.IntN.{pos}
@@ -13,10 +12,10 @@ use Rattle.num.specs.Signed.{signedAt}
 use Rattle.num.specs.Metric.{dist}
 use Rattle.num.specs.Opened.{openAt}
 use Rattle.law.specs.Lists.{All, Pairs}
-use Rattle.law.specs.Types.{reads, Disk as LawDisk, Item, Outcome, accepted}
+use Rattle.law.specs.Types.{reads, Disk as LawDisk, Item, accepted}
 use Rattle.law.specs.Entries.{kindAt, kindOf}
 use Rattle.law.specs.Readings.{present, carried}
-use Rattle.law.specs.Calls.{withGrant, claim}
+use Rattle.law.specs.Calls.{withGrant}
 use Rattle.law.specs.History.{claims, answered}
 use Rattle.law.specs.GrantedAtOnce.{Reading, Free, readingItem, granted-at-once as law-granted-at-once}
 use Rattle.law.specs.Kept.{Once}
@@ -27,12 +26,12 @@ use Rattle.answer.specs.Answers.{codeOf, answerBytes, answerSize}
 use Rattle.desk.specs.Record.{byteAt, kindOf as kindByte, diskOf, askedOf, callOf}
 use Rattle.desk.specs.Board.{disks, boardBytes, partOf, withPart}
 use Rattle.part.specs.Held.{held, partFor, soundPart}
-use Rattle.desk.specs.Step.{answerOf, ownOf, grantsOf, tells, Told, telling, settled, serveOf, onBoard, tellOf, Stepped, written, stepOf}
+use Rattle.desk.specs.Step.{answerOf, ownOf, grantsOf, tells, telling, serveOf, onBoard, tellOf, Stepped, written, stepOf}
 use Rattle.part.specs.PartLaws.{held-part, part-sound}
 use Rattle.promises.specs.Sentences.{WellFormed}
 use Rattle.promises.specs.RefusalLaws.{says-formed}
 use Rattle.promises.specs.Histories.{Call, BytesIn, stepBy, saidBy, begun, lived}
-use Rattle.promises.specs.LifeLaws.{Life, lifeOf, life-sound, Stands, shut, lives, whole-begun, whole-lived}
+use Rattle.promises.specs.LifeLaws.{lifeOf, life-sound, Stands, shut, lives, whole-begun, whole-lived}
 
 -- ---- what is said is what the answer buffer shows
 

@@ -1,11 +1,11 @@
 -- What every call keeps, whatever board is lent: no accepted call leaves an unsound part, and nothing but the call's own disk moves.
-use Prim.Native.Nat.{ℕ, _+_, _/_, _^_, _≤_, _<_}
+use Prim.Native.Nat.{ℕ, _^_, _≤_, _<_}
 use mathlib.Core.Bool.{Bool, true, false, _&&_, true≢false}
-use mathlib.Core.List.{List, [], _∷_}
+use mathlib.Core.List.{List}
 use mathlib.Core.Logic.{_≢_}
 use mathlib.Core.Path.{_≡_, refl, sym, ap, subst, _∙_}
 use native.Mathlib.Omega.{arith}
-use borrow.Author.Tests.{eqb-true, eq-eqb, ne-eqb}
+use borrow.Author.Tests.{eqb-true}
 use lib.Dec.{eqb}
 use lib.ListN.{length, getD}
 use Rattle.num.specs.Word.{Bytes}
@@ -26,7 +26,7 @@ use Rattle.desk.specs.Record.{wellFormed, diskOf, nowOf, callOf, usedLimit, pro
 use Rattle.desk.specs.Board.{disks, boardBytes, partOf, withPart}
 use Rattle.desk.specs.BoardLaws.{length-with, part-same, part-other, part-open, open-with, byte-before}
 use Rattle.part.specs.Held.{held, partFor, soundPart}
-use Rattle.desk.specs.Step.{Told, tellOf, written, Stepped, stepped, stepOf}
+use Rattle.desk.specs.Step.{tellOf, written, Stepped, stepped, stepOf}
 use Rattle.part.specs.PartLaws.{part-sound, sound-held, sound-decodes, length-part-for}
 use Rattle.promises.specs.Sentences.{SoundPart}
 use Rattle.promises.specs.Histories.{Call, BytesIn, begun, lived}

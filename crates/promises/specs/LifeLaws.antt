@@ -1,19 +1,19 @@
 -- Laws: each disk of a board that calls from the empty one have left is shut, or lives as the law says, and all that was said on it
 -- is what the law said.
 use Prim.Native.Nat.{ℕ, _≤_, _<_, _^_}
-use mathlib.Core.Bool.{Bool, true, false, cond, _&&_, false≢true, true≢false}
+use mathlib.Core.Bool.{Bool, true, false, cond, true≢false}
 use mathlib.Core.List.{List, [], _∷_, _++_, append-nil}
 use mathlib.Core.Logic.{_≢_}
 use mathlib.Core.Path.{_≡_, refl, sym, ap, subst, _∙_}
 use native.Mathlib.Omega.{arith}
 use borrow.Author.Tests.{eqb-true, eqb-false, eq-eqb, ne-eqb, ltb-true, ltb-false}
 use lib.Dec.{eqb, ltb}
-use lib.ListN.{length, replicate, getD, length-replicate, getD-replicate, List·getD-eq-default}
+use lib.ListN.{length, getD, length-replicate, getD-replicate, List·getD-eq-default}
 use Rattle.num.specs.Word.{Bytes}
 use Rattle.num.specs.Opened.{openAt, setOpen}
 use Rattle.num.specs.OpenedLaws.{length-set-open, bytes-set-open, open-set-same, open-set-other, open-none}
 use Rattle.law.specs.Lists.{All, all-append}
-use Rattle.law.specs.Types.{mostError, Disk as LawDisk, Item, Outcome, refused, accepted}
+use Rattle.law.specs.Types.{mostError, Disk as LawDisk, Item, accepted}
 use Rattle.law.specs.Calls.{item, opened}
 use Rattle.law.specs.Events.{After}
 use Rattle.law.specs.History.{Call as LawCall, History as LawHistory, begun as lawBegun, after as lawAfter, answered, lived as lawLived}
@@ -21,13 +21,12 @@ use Rattle.law.specs.Sound.{Sound}
 use Rattle.law.specs.SoundKept.{ReadableCall, sound-kept, lived-sound}
 use Rattle.law.specs.ProperLaws.{disk-proper}
 use Rattle.law.specs.DiskType.{diskTable}
-use Rattle.answer.specs.declared.Refusal.{Refusal}
 use Rattle.answer.specs.Answers.{answerSize}
 use Rattle.desk.specs.Record.{wellFormed, diskOf, nowOf, callOf, usedLimit, promisedLimit}
 use Rattle.desk.specs.Board.{disks, boardBytes, partOf, withPart}
 use Rattle.desk.specs.BoardLaws.{length-with, part-same, part-other, open-with, bytes-with, part-open}
 use Rattle.part.specs.Held.{held, partFor}
-use Rattle.desk.specs.Step.{Told, tellOf, written, stepOf}
+use Rattle.desk.specs.Step.{Told, tellOf, stepOf}
 use Rattle.part.specs.PartLaws.{held-part, length-part-for, bytes-part-for}
 use Rattle.promises.specs.Histories.{emptyBoard, Call, BytesIn, stepBy, saidBy, itemsIn, itemsOn, History, begun, after, lived}
 use Rattle.promises.specs.CaseLaws.{Case, isRefused, isOpened, isServed, told-case, call-readable, nowIn, clock-set, call-now, now-fits}

@@ -1,10 +1,22 @@
 -- Any two results that a promise admits are equal.
 use Prim.Native.Nat.{ℕ}
+use mathlib.Core.Bool.{Bool, true, false}
 use mathlib.Core.List.{List}
-use mathlib.Core.Path.{_≡_, sym, ap, _∙_}
-use Rattle.law.specs.Types.{Asked as LawAsked}
+use mathlib.Core.Path.{_≡_, refl, sym, ap, _∙_}
+use Rattle.law.specs.declared.Claim.{Claim}
+use Rattle.law.specs.Types.{Core, Asked as LawAsked, Disk as LawDisk}
+use Rattle.claims.specs.Rows.{RowIs}
+use Rattle.claims.specs.RowLaws.{row-one}
 use Rattle.rules.specs.declared.disk.Asked.{Asked}
 use Rattle.rules.specs.Answers.{askedOf}
+use Rattle.rules.specs.Disks.{DiskIs}
+use Rattle.part.specs.Layout.{slots, inSlots, decode}
+use Rattle.slots.specs.Slots.{Kept}
+use Rattle.judge.specs.Decisions.{DecidedIs}
+use Rattle.answer.specs.declared.Answer.{Answer}
+use Rattle.answer.specs.Answers.{OwnOnly, Behind}
+use Rattle.place.specs.Holding.{Holds}
+use Rattle.place.specs.HoldingLaws.{holds-part}
 use Rattle.desk.specs.declared.board.Count.{Count}
 use Rattle.desk.specs.Counts.{countOf}
 use Rattle.desk.specs.Step.{Stepped, stepped, stepOf}
@@ -13,7 +25,9 @@ use Rattle.desk.specs.Step.{Stepped, stepped, stepOf}
 pub unique : {A : Type 0} {x y z : A} → x ≡ z → y ≡ z → x ≡ y
 unique p q = p ∙ sym q
 
--- The call: its code, the board and the answer buffer at the end.
+-- ---- the call
+
+-- Its code, the board and the answer buffer at the end.
 pub step-unique : (b r a : List ℕ) {n m : ℕ} {c d e f : List ℕ} → stepped n c e ≡ stepOf b r a → stepped m d f ≡ stepOf b r a →
     (n ≡ m) × ((c ≡ d) × (e ≡ f))
 step-unique b r a p q = (
@@ -40,3 +54,32 @@ asked-unique p q =
       error = l .error;
     })
     (unique p q)
+
+-- ---- the decision
+
+-- Whether it is granted, and its total.
+pub decided-unique : {ok yes : Bool} {n m : ℕ} {s : Core} {ahead : List Claim} {c : Claim} → DecidedIs ok n s ahead c → DecidedIs yes m s ahead c →
+    (ok ≡ yes) × (n ≡ m)
+decided-unique {ok} {yes} {n} {m} x y = (unique (x .says) (y .says), total ok refl)
+  where
+    total : (v : Bool) → ok ≡ v → n ≡ m
+    total true e = unique (x .counts e) (y .counts (unique (y .says) (x .says) ∙ e))
+    total false e = unique (x .fails e) (y .fails (unique (y .says) (x .says) ∙ e))
+
+-- ---- bytes that are said through what they hold
+
+-- Eight slots through their claims.
+pub slots-unique : {r s : List ℕ} {cs : List Claim} → Kept r → slots 8 r ≡ cs → Kept s → slots 8 s ≡ cs → r ≡ s
+slots-unique k p l q = sym k ∙ ap inSlots (unique p q) ∙ l
+
+-- Eight slots through a list of claims and its length.
+pub row-unique : {r s : List ℕ} {n : ℕ} {ws : List Claim} → Kept r → RowIs (slots 8 r) n ws → Kept s → RowIs (slots 8 s) n ws → r ≡ s
+row-unique k p l q = slots-unique k (row-one p q) l refl
+
+-- A part through the disk of the law for which its disk stands.
+pub part-unique : {p q : List ℕ} {d : LawDisk} → Holds p (decode p) → DiskIs (decode p) d → Holds q (decode q) → DiskIs (decode q) d → p ≡ q
+part-unique h x k y = unique (holds-part h x) (holds-part k y)
+
+-- The answer buffer through the grants behind the one answer that it held.
+pub behind-unique : (grants : List Answer) {a b c : List ℕ} → OwnOnly a → Behind a grants b → Behind a grants c → b ≡ c
+behind-unique grants o p q = unique (p (o .own) (o .is)) (q (o .own) (o .is))

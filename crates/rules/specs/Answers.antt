@@ -1,25 +1,25 @@
--- What the calls on a disk by value answer, over the law's outcomes.
+-- What is asked of a disk and answered, over the law's requests and outcomes, and the disks that calls leave.
 use Prim.Native.Nat.{ℕ, _+_, _≤_}
 use mathlib.Core.Bool.{Bool, cond}
-use mathlib.Core.List.{List, [], _∷_, _++_, map}
+use mathlib.Core.List.{List, [], _∷_, _++_}
 use mathlib.Core.Path.{_≡_}
 use lib.Dec.{leb, ltb}
 use lib.IntN.{ℤ, pos}
-use lib.ListN.{length, take, getD, replicate}
+use lib.ListN.{take, getD, replicate}
 use Rattle.num.specs.Metric.{size}
 use Rattle.claims.specs.Rows.{noClaim, removeAt}
 use Rattle.law.specs.declared.Claim.{Claim}
 use Rattle.law.specs.Types.{mostValue, mostError, lastTicket, Kind, sets, adds, reads, Figures, Core, Asked as LawAsked, Item as LawItem, Outcome, refused, accepted, Disk as LawDisk}
 use Rattle.law.specs.Entries.{kindOf}
-use Rattle.law.specs.Granting.{total, grant, grantItem}
-use Rattle.law.specs.Calls.{Rule, valueFits, landBy, queue, Passing, item, newAttr, setClock, claimRefusals, pass}
+use Rattle.law.specs.Granting.{total, grant}
+use Rattle.law.specs.Calls.{Rule, valueFits, landBy, queue, newAttr, setClock, claimRefusals}
 use Rattle.law.specs.GrantLaws.{MayGrant}
 use Rattle.law.specs.DiskType.{diskTable}
 use Rattle.rules.specs.declared.disk.Disk.{Disk}
 use Rattle.rules.specs.declared.disk.Item.{Item}
 use Rattle.rules.specs.declared.disk.Asked.{Asked}
 use Rattle.rules.specs.declared.calls.Judgement.{Judgement}
-use Rattle.lock.specs.Loops.{coreOf}
+use Rattle.lock.specs.Pairs.{coreOf}
 use Rattle.rules.specs.Disks.{figuresIn, Good, DiskIs, TellFits}
 
 -- An item that nothing fills.
@@ -42,27 +42,6 @@ askedOf q =
       value = q .value;
       error = q .error;
     }
-
--- The first so many of eight items are those of the list, and nothing fills the others.
-pub record ItemsAre (a : List Item) (n : ℕ) (l : List LawItem) : Type 0 where
-  pub room : length a ≡ 8
-  pub shows : take n a ≡ map shown l
-  pub count : n ≡ length l
-  pub clear : (k : ℕ) → n ≤ k → getD a k noItem ≡ noItem
-
--- A pass: the disk it leaves, with the next ticket as it was, and its grants.
-pub record PassedIs (d : Disk) (a : List Item) (n next : ℕ) (p : Passing) : Type 0 where
-  pub disk : DiskIs d (record { core = p .core; waiting = p .ahead; next = next })
-  pub items : ItemsAre a n (p .items)
-
--- A call on the disk d: a refusal has its number, and the disk as it was; an accepted one has 0, the new disk and the items
--- behind the call's own.
-abbrev pub Answers : Disk → ℕ → Disk → Item → List Item → ℕ → Outcome → Type 0
-Answers d number e own a n (refused m) =
-    (number ≡ m) × (e ≡ d) × (own ≡ noItem) × ItemsAre a n []
-Answers d number e own a n (accepted f []) = ⊥
-Answers d number e own a n (accepted f (i ∷ items)) =
-    (number ≡ 0) × DiskIs e f × (own ≡ shown i) × ItemsAre a n items
 
 -- ---- claim
 
@@ -134,17 +113,6 @@ endedAt e now at =
 unfoldable pub leftAt : LawDisk → ℕ → ℕ → LawDisk
 leftAt e now at = record { core = setClock now (e .core); waiting = removeAt at (e .waiting); next = e .next }
 
--- The pass over what an end leaves.
-unfoldable pub released : LawDisk → ℕ → Outcome
-released e n =
-    accepted
-    (record {
-      core = pass diskTable (e .core) (e .waiting) .core;
-      waiting = pass diskTable (e .core) (e .waiting) .ahead;
-      next = e .next;
-    })
-    (item 2 n ∷ pass diskTable (e .core) (e .waiting) .items)
-
 -- ---- open
 
 -- A disk without claims.
@@ -165,3 +133,8 @@ emptyOf now l0 l1 next =
 -- What stands for no disk: a disk of zeros.
 abbrev pub noDisk : Disk
 noDisk = emptyOf 0 0 0 0
+
+-- An open: a refusal has its number and the disk of zeros, an accepted one 0 and the opened disk.
+abbrev pub Answers : ℕ → Disk → Outcome → Type 0
+Answers number e (refused n) = (number ≡ n) × (e ≡ noDisk)
+Answers number e (accepted f items) = (number ≡ 0) × DiskIs e f

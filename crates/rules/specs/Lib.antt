@@ -1,3 +1,3 @@
 pub mod Disks
 pub mod Answers
-pub mod AnswerLaws
+pub mod DiskLaws

@@ -1,9 +1,6 @@
-// The law in code, on a disk by value: grant, the end of a claim, the pass, open, claim and release,
-// each equal to the law's definition of the same name. Nothing is changed until a decision stands;
-// then the change is made once, in place, on the local disk.
+// A disk by value, which is what the bytes of a part mean, and what a call needs of it beside the decision: refusals 15 to 19,
+// the claim that is asked for, and an opened disk.
 
 pub mod calls;
 pub mod disk;
 pub mod fields;
-pub mod grant;
-pub mod pass;

@@ -1,15 +1,17 @@
 -- Eight slots in bytes, and the readings among their claims raised by the grant of a write.
-use Prim.Native.Nat.{ℕ, _<_}
+use Prim.Native.Nat.{ℕ, _+_, _<_}
 use mathlib.Core.Bool.{false, true}
 use mathlib.Core.List.{List, _++_, map}
 use mathlib.Core.Path.{_≡_}
 use lib.ListN.{take, drop, getD}
 use Rattle.law.specs.declared.Claim.{Claim}
+use Rattle.law.specs.declared.Entry.{Entry}
+use Rattle.law.specs.declared.Entry.the-variants.{A, N, D, G}
 use Rattle.law.specs.Entries.{entryBy, kindAt, kindOf}
+use Rattle.law.specs.Granting.{putTold}
 use Rattle.law.specs.DiskType.{diskTable}
 use Rattle.claims.specs.Rows.{noClaim}
-use Rattle.lock.specs.Loops.{letsBy}
-use Rattle.rules.specs.Disks.{raiseBy}
+use Rattle.lock.specs.Pairs.{letsBy}
 use Rattle.part.specs.Layout.{slots, inSlots}
 
 -- The bytes are those of their claims: what carries no figure is zero.
@@ -19,6 +21,13 @@ Kept row = inSlots (slots 8 row) ≡ row
 -- The list with f done to each before a place.
 abbrev pub mapTo : {X : Type 0} → ℕ → (X → X) → List X → List X
 mapTo i f l = map f (take i l) ++ drop i l
+
+-- The active claim x raised by so much, by its entry with the write that is granted.
+abbrev pub raiseBy : Claim → Entry → ℕ → Claim
+raiseBy x A raise = x
+raiseBy x N raise = x
+raiseBy x D raise = x
+raiseBy x G raise = putTold x (x .told) (x .amount + raise)
 
 -- The active claim x raised by so much by the grant of a write of method m.
 abbrev pub raiseWith : ℕ → ℕ → Claim → Claim

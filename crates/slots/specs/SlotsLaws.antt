@@ -1,9 +1,11 @@
--- Laws of eight slots: a claim or an amount put into one of them, what is read from it, and what is raised.
-use Prim.Native.Nat.{ℕ, zero, suc, _+_, _*_, _^_, _<_}
-use mathlib.Core.List.{List, [], _∷_, _++_, append-nil}
+-- Laws of eight slots: a claim or an amount put into one of them, what is read from it, what is raised, and the first of a list
+-- changed where they stand.
+use Prim.Native.Nat.{ℕ, zero, suc, _+_, _*_, _^_, _≤_, _<_}
+use mathlib.Core.List.{List, [], _∷_, _++_, map, append-nil}
 use mathlib.Core.Path.{_≡_, refl, sym, ap, _∙_}
+use native.Mathlib.Numerals.{add-one}
 use native.Mathlib.Omega.{arith}
-use lib.ListN.{length, drop, getD, set, length-set}
+use lib.ListN.{length, take, drop, getD, set, length-set}
 use lib.Seq.{getD-take, getD-drop}
 use Rattle.num.specs.Word.{wordAt, putWord, Bytes}
 use Rattle.num.specs.Runs.{le4, flat, splice}
@@ -12,11 +14,10 @@ use Rattle.law.specs.declared.Claim.{Claim}
 use Rattle.law.specs.declared.Entry.{Entry}
 use Rattle.law.specs.declared.Entry.the-variants.{A, N, D, G}
 use Rattle.law.specs.Granting.{putTold}
-use Rattle.claims.specs.Rows.{noClaim}
-use Rattle.rules.specs.Disks.{raiseBy}
+use Rattle.claims.specs.Rows.{noClaim, Row}
 use Rattle.part.specs.Layout.{claimIn, claimWords, slots, inSlots, ClaimFits, ClaimsFit}
 use Rattle.part.specs.SlotLaws.{length-slots, length-slot, slots-back, slots-fit, slot-at, put-in-slot}
-use Rattle.slots.specs.Slots.{Kept}
+use Rattle.slots.specs.Slots.{Kept, raiseBy, mapTo}
 
 -- The bytes of eight claims that have a place hold them.
 pub slots-in : (cs : List Claim) → ClaimsFit cs → slots 8 (inSlots cs) ≡ cs
@@ -129,3 +130,44 @@ raise-amount x A raise = refl
 raise-amount x N raise = refl
 raise-amount x D raise = refl
 raise-amount x G raise = refl
+
+-- ---- the first of a list changed
+
+module _ {X : Type 0} (f : X → X) where
+  to-on : (l : List X) (i : ℕ) (d : X) → i < length l → set (mapTo i f l) i (f (getD (mapTo i f l) i d)) ≡ mapTo (suc i) f l
+  to-on [] i d h = absurd (omega arith)
+  to-on (x ∷ l) zero d h = refl
+  to-on (x ∷ l) (suc i) d h = ap {B = List X} (λ r. f x ∷ r) (to-on l i d (omega arith))
+
+  -- The one at i changed where it stands.
+  pub to-step : (l : List X) (i : ℕ) (d : X) → i < length l → set (mapTo i f l) i (f (getD (mapTo i f l) i d)) ≡ mapTo (i + 1) f l
+  to-step l i d h = rw add-one (to-on l i d h)
+
+  -- From there on each stands as it was.
+  pub to-back : (l : List X) (i k : ℕ) (d : X) → i ≤ k → getD (mapTo i f l) k d ≡ getD l k d
+  to-back [] zero k d h = refl
+  to-back [] (suc i) k d h = refl
+  to-back (x ∷ l) zero k d h = refl
+  to-back (x ∷ l) (suc i) zero d h = absurd (omega arith)
+  to-back (x ∷ l) (suc i) (suc k) d h = to-back l i k d (omega arith)
+
+  to-length : (l : List X) (i : ℕ) → length (mapTo i f l) ≡ length l
+  to-length [] zero = refl
+  to-length [] (suc i) = refl
+  to-length (x ∷ l) zero = refl
+  to-length (x ∷ l) (suc i) = ap suc (to-length l i)
+
+  pub to-front : (l : List X) (i : ℕ) → take i (mapTo i f l) ≡ map f (take i l)
+  to-front [] zero = refl
+  to-front [] (suc i) = refl
+  to-front (x ∷ l) zero = refl
+  to-front (x ∷ l) (suc i) = ap {B = List X} (λ r. f x ∷ r) (to-front l i)
+
+-- The first n changed: the places behind them stay clear.
+pub to-row : (f : Claim → Claim) (a : List Claim) (n : ℕ) → Row a n → Row (mapTo n f a) n
+to-row f a n r =
+    record {
+      room = to-length f a n ∙ r .room;
+      few = r .few;
+      clear = λ k h. to-back f a n k noClaim h ∙ r .clear k h;
+    }

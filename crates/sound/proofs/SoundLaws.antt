@@ -10,7 +10,7 @@ use lib.Dec.{leb, ltb}
 use lib.ListN.{length}
 use Rattle.num.specs.Metric.{size}
 use Rattle.law.specs.declared.Claim.{Claim}
-use Rattle.law.specs.Base.{allTrue, everyOf, everyPair, sumOf}
+use Rattle.law.specs.Base.{allTrue, everyOf, everyPair}
 use Rattle.law.specs.Lists.{All, Pairs, never-true, all-say, all-both, all-true, all-append, all-left, all-right, pairs-join, pairs-left, pairs-right, pairs-cross, and-left, and-right, Passed, passed, all-passed, every-tests, sum-zero}
 use Rattle.law.specs.Types.{mostValue, mostPriority, mostFlag, places, lastTicket, Attribute, a0, a1, a2, Kind, sets, adds, reads, Figures, attr, Disk}
 use Rattle.law.specs.Entries.{kindOf, entry, isNever}
@@ -20,8 +20,8 @@ use Rattle.law.specs.Sound.{eachAttribute, bare, bareBy, readingBy, limitFits, 
 use Rattle.law.specs.Says.{_and_}
 use Rattle.law.specs.DiskType.{diskTable}
 use Rattle.law.specs.TableLaws.{disk-methods}
-use Rattle.lock.specs.Loops.{addOf}
-use Rattle.lock.proofs.LoopLaws.{each-kind}
+use Rattle.lock.specs.Pairs.{addOf}
+use Rattle.lock.proofs.EntryLaws.{each-kind}
 use Rattle.sound.specs.Tests.{figureTests, figureFits, figuresTests, figuresFit, claimTests, claimFits, toldTests, toldFits, activeTests, activeFits, waitingTests, waitingFits, apart, meetTests, meets, followTests, follows, activeWalk, waitingWalk, codeTests}
 use Rattle.sound.proofs.WalkLaws.{says-all, says-two-by-two, Walked, says-walk}
 

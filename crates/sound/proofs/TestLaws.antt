@@ -1,9 +1,8 @@
 -- Laws of the tests in their order: where one fails, all together fail; where all but the last pass, the last decides.
-use Prim.Native.Nat.{ℕ, zero, suc, _≤_, _<_}
+use Prim.Native.Nat.{ℕ, zero, suc}
 use mathlib.Core.Bool.{Bool, true, false, _&&_, and-false}
 use mathlib.Core.List.{List, [], _∷_, _++_}
 use mathlib.Core.Path.{_≡_, refl, sym, ap, _∙_}
-use borrow.Author.Tests.{le-leb}
 use lib.Dec.{leb}
 use lib.IntN.{ℤ, pos}
 use lib.ListN.{getD}
@@ -17,7 +16,7 @@ use Rattle.law.specs.Calls.{valueFits}
 use Rattle.law.specs.Sound.{bare, bareBy, readingBy}
 use Rattle.law.specs.DiskType.{diskTable}
 use Rattle.lock.specs.Methods.{isReading}
-use Rattle.lock.proofs.LoopLaws.{last-test}
+use Rattle.lock.proofs.EntryLaws.{last-test}
 use Rattle.rules.proofs.CallLaws.{state-below, state-from}
 
 -- The test at place k fails.

@@ -13,7 +13,7 @@ use Rattle.law.specs.Entries.{kindOf, entry, isNever}
 use Rattle.law.specs.Calls.{valueFits, fieldTests, ownFits, before}
 use Rattle.law.specs.Sound.{bare, bareBy, readingBy, limitFits}
 use Rattle.law.specs.DiskType.{diskTable}
-use Rattle.lock.specs.Loops.{addOf}
+use Rattle.lock.specs.Pairs.{addOf}
 
 -- ---- figures
 

@@ -3,7 +3,7 @@
 ghost use mathlib.Core.Path.{_≡_};
 ghost use Rattle.law.specs.Entries.{isNever};
 ghost use Rattle.law.specs.TableLaws.{entryAt};
-ghost use Rattle.lock.specs.Loops.{indexOf};
+ghost use Rattle.lock.specs.Pairs.{indexOf};
 ghost use Rattle.sound.specs.Tests.{meets as lawMeets, follows as lawFollows};
 use claims::before;
 use law::Claim;

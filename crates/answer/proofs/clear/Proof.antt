@@ -5,7 +5,7 @@ use mathlib.Core.Path.{_≡_, refl}
 use native.Mathlib.Omega.{arith}
 use borrow.Author.Needs.{needs}
 use borrow.Author.Fill.{fill-more}
-use lib.ListN.{length, drop, replicate, length-append, length-replicate, length-drop, drop-of-length-le}
+use lib.ListN.{drop, replicate, length-append, length-replicate, length-drop, drop-of-length-le}
 use Rattle.answer.proofs.clear.Statement.{statement}
 use Rattle.answer.proofs.clear.Tie as tie
 

@@ -21,7 +21,7 @@ use Rattle.law.specs.Granting.{tellBy, grantItem}
 use Rattle.law.specs.Calls.{asked, grantedAtOnce}
 use Rattle.law.specs.DiskType.{diskTable}
 use Rattle.lock.specs.Methods.{figuresOf}
-use Rattle.lock.specs.Loops.{DecidedIs}
+use Rattle.judge.specs.Decisions.{DecidedIs}
 use Rattle.rules.specs.declared.calls.Judgement.{Judgement}
 use Rattle.rules.specs.declared.disk.Disk.{Disk}
 use Rattle.rules.specs.Answers.{askedOf, shownBy, firstNumber, firstRules, coreAt, TakesGrant}

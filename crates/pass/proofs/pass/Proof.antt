@@ -1,10 +1,9 @@
 -- What is left of the pass, over the disk so far, is the pass of the law: each turn keeps it, by PassLaws.
 use Prim.Native.Nat.{ℕ, _-_, _≤_, _<_}
-use mathlib.Core.Path.{_≡_, refl, sym, _∙_, subst}
+use mathlib.Core.Path.{_≡_, sym, _∙_, subst}
 use native.Mathlib.Omega.{arith}
 use borrow.Author.Needs.{needs}
 use lib.ListN.{length}
-use Rattle.law.specs.Types.{Disk as LawDisk}
 use Rattle.rules.specs.declared.disk.Disk.{Disk}
 use Rattle.rules.specs.Disks.{DiskIs}
 use Rattle.part.specs.Layout.{decode}
@@ -42,7 +41,7 @@ loop-holds c =
     let k = c .before .before .before .before in
     let s = k .args .s .now in (
       k .pre .0,
-      k .pre .1 .1 .1,
+      k .pre .1 .1 .1 .0,
       decodes-holds s (λ i. c .before .before .before .slice-known .given i .fits) (k .pre .0) (k .pre .1 .0),
       run-start (disk k) (k .args .answer .now) (decode-good s (k .pre .0) (k .pre .1 .0)) (k .pre .1 .1 .0),
     )

@@ -1,17 +1,15 @@
 -- The decision says which turn it is: a grant, with its item behind the others, or a place among those that wait.
 use Prim.Native.Nat.{ℕ, _+_, _-_, _*_, _≤_, _<_}
-use mathlib.Core.Bool.{Bool, true, false}
+use mathlib.Core.Bool.{Bool, true}
 use mathlib.Core.List.{List}
 use mathlib.Core.Path.{_≡_, refl, sym, ap, _∙_, subst}
 use native.Mathlib.Omega.{arith}
 use borrow.Author.Needs.{needs}
 use borrow.Rule.Slice.PartMut.{putMid}
-use lib.IntN.{ℤ}
 use lib.ListN.{length, set}
 use mir.Facts.{toZ-ofZ}
 use Rattle.num.specs.Runs.{splice}
 use Rattle.num.specs.RunLaws.{mid-splice}
-use Rattle.num.specs.Metric.{size}
 use Rattle.law.specs.declared.Claim.{Claim}
 use Rattle.law.specs.Types.{mostError}
 use Rattle.law.specs.Entries.{kindAt, kindOf}
@@ -19,9 +17,9 @@ use Rattle.law.specs.Granting.{tellBy, total, granted, grantItem}
 use Rattle.law.specs.GrantLaws.{MayGrant, grant-says}
 use Rattle.law.specs.DiskType.{diskTable}
 use Rattle.lock.specs.Methods.{figuresOf}
-use Rattle.lock.specs.Loops.{DecidedIs}
+use Rattle.judge.specs.Decisions.{DecidedIs}
 use Rattle.rules.specs.declared.disk.Disk.{Disk}
-use Rattle.rules.specs.Disks.{figuresIn, coreIn, diskOf, Good, DiskIs, grantOf}
+use Rattle.rules.specs.Disks.{figuresIn, coreIn, diskOf, DiskIs, grantOf}
 use Rattle.part.specs.Layout.{slots, decode}
 use Rattle.answer.specs.declared.Answer.the-variants.{Granted}
 use Rattle.answer.specs.Answers.{itemBytes}

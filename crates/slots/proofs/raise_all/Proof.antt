@@ -12,14 +12,12 @@ use Rattle.law.specs.Entries.{entryBy, kindAt, kindOf}
 use Rattle.law.specs.Granting.{putTold}
 use Rattle.law.specs.DiskType.{diskTable, diskEntries}
 use Rattle.claims.specs.Rows.{noClaim}
-use Rattle.lock.specs.Loops.{letsBy}
-use Rattle.lock.proofs.LoopLaws.{found-at}
-use Rattle.rules.specs.Disks.{raiseBy}
-use Rattle.rules.proofs.ChangeLaws.{to-back, to-step}
+use Rattle.lock.specs.Pairs.{letsBy}
+use Rattle.lock.proofs.EntryLaws.{found-at}
 use Rattle.part.specs.Layout.{slots}
 use Rattle.part.specs.SlotLaws.{length-slots, slot-at}
-use Rattle.slots.specs.Slots.{Kept, mapTo, raiseWith}
-use Rattle.slots.specs.SlotsLaws.{raise-amount}
+use Rattle.slots.specs.Slots.{Kept, mapTo, raiseWith, raiseBy}
+use Rattle.slots.specs.SlotsLaws.{raise-amount, to-back, to-step}
 use Rattle.slots.proofs.raise_all.Statement.{statement}
 use Rattle.slots.proofs.raise_all.Tie as tie
 

@@ -8,15 +8,15 @@ use native.Mathlib.Omega.{arith}
 use borrow.Author.Needs.{needs}
 use borrow.Author.Tests.{eq-eqb, ne-eqb, not-true, not-false}
 use mir.Facts.{toZ-ofZ}
-use lib.ListN.{drop, getD}
+use lib.ListN.{drop}
 use Rattle.law.specs.declared.Attr.{Attr}
 use Rattle.law.specs.declared.Claim.{Claim}
 use Rattle.law.specs.Base.{everyOf, sumOf}
 use Rattle.law.specs.Sound.{sound}
 use Rattle.law.specs.DiskType.{diskTable, diskEntries}
 use Rattle.claims.specs.RowLaws.{sum-turn, sum-end, every-on, every-not, every-end}
-use Rattle.lock.specs.Loops.{addOf}
-use Rattle.lock.proofs.LoopLaws.{found-at}
+use Rattle.lock.specs.Pairs.{addOf}
+use Rattle.lock.proofs.EntryLaws.{found-at}
 use Rattle.rules.specs.declared.disk.Disk.{Disk}
 use Rattle.rules.specs.Disks.{figuresIn, diskOf, Good}
 use Rattle.part.specs.Layout.{decode}

@@ -3,22 +3,21 @@ use mathlib.Core.List.{[]}
 use mathlib.Core.Path.{ap, _∙_}
 use borrow.Author.Needs.{needs}
 use Rattle.law.specs.Calls.{openDisk}
-use Rattle.rules.specs.Answers.{noDisk}
-use Rattle.rules.specs.AnswerLaws.{Admits}
+use Rattle.rules.specs.Answers.{Answers}
 use Rattle.answer.specs.declared.Refusal.{Refusal}
 use Rattle.answer.specs.declared.Answer.the-variants as A
 use Rattle.answer.specs.Answers.{numberOf, answerBytes}
 use Rattle.desk.specs.Record.{nowOf, usedLimit, promisedLimit}
-use Rattle.desk.proofs.ServeLaws.{admits-refused}
+use Rattle.desk.proofs.ServeLaws.{answers-refused}
 use Rattle.desk.proofs.FrameLaws.{open-refused, open-accepted}
 use Rattle.desk.proofs.board.open_on.Statement.{statement}
 use Rattle.desk.proofs.board.open_on.Tie as tie
 
 -- The open is that of the record's fields.
-admits : (k : tie.After-open) →
-    Admits noDisk (k .«open» .result)
+answers : (k : tie.After-open) →
+    Answers (k .«open» .result .refusal) (k .«open» .result .disk)
     (openDisk (nowOf (k .before .before .before .before .before .before .before .args .r .now)) (usedLimit (k .before .before .before .before .before .before .before .args .r .now)) (promisedLimit (k .before .before .before .before .before .before .before .args .r .now)))
-admits k = rw (k .before .before .before .word-at .ensures, k .before .before .word-at2 .ensures, k .before .word-at3 .ensures) at (k .«open» .ensures)
+answers k = rw (k .before .before .before .word-at .ensures, k .before .before .word-at2 .ensures, k .before .word-at3 .ensures) at (k .«open» .ensures)
 
 word-at-requires : tie.Need-word-at-requires
 word-at-requires c κs = search needs
@@ -48,7 +47,7 @@ returns c =
     let r = c .before .before .before .refusal-of .ensures in
     let e = c .before .before .refuse .ensures in
     open-refused (a .board .now) (a .d) {o = openDisk (nowOf (a .r .now)) (usedLimit (a .r .now)) (promisedLimit (a .r .now))} (k .«open» .result .refusal)
-    (admits-refused noDisk (k .«open» .result) _ (admits k) (c .before .before .before .before .before .if1 .taken))
+    (answers-refused (k .«open» .result .refusal) (k .«open» .result .disk) _ (answers k) (c .before .before .before .before .before .if1 .taken))
     (e .0 ∙ ap numberOf r) (e .1 ∙ ap (λ (x : Refusal). answerBytes (A.Refused x) []) r)
 
 put-open-requires : tie.Need-put-open-requires
@@ -67,8 +66,8 @@ returns-2 : tie.Need-returns-2
 returns-2 c =
     let k = c .before .before .before .before .before .before .before .before .before .before .before in
     let a = k .before .before .before .before .before .before .before .args in
-    open-accepted (a .board .now) (a .d) (nowOf (a .r .now)) (usedLimit (a .r .now)) (promisedLimit (a .r .now)) (k .«open» .result)
-    (admits k) (c .before .before .before .before .before .before .before .before .before .if1 .left) (c .before .before .before .before .before .before .put-open .ensures) (c .before .before .put-answer .ensures)
+    open-accepted (a .board .now) (a .d) (nowOf (a .r .now)) (usedLimit (a .r .now)) (promisedLimit (a .r .now)) (k .«open» .result .disk)
+    (answers k) (c .before .before .before .before .before .before .before .before .before .if1 .left) (c .before .before .before .before .before .before .put-open .ensures) (c .before .before .put-answer .ensures)
 
 pub open-on-spec : {M : Type 1} → statement M
 open-on-spec =

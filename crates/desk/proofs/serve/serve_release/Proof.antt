@@ -1,8 +1,7 @@
 -- The ticket's claim is active, or waits, or there is none, as the law's places say. What an end leaves is a sound part, and the
 -- pass runs over it.
 use Prim.Native.Nat.{ℕ, _≤_, _<_}
-use mathlib.Core.List.{[]}
-use mathlib.Core.Path.{_≡_, ap, _∙_}
+use mathlib.Core.Path.{_≡_, _∙_}
 use native.Mathlib.Omega.{arith}
 use borrow.Author.Needs.{needs}
 use lib.ListN.{length, take}
@@ -13,15 +12,16 @@ use Rattle.law.specs.DiskType.{diskTable}
 use Rattle.claims.specs.Rows.{placeOf}
 use Rattle.claims.specs.RowLaws.{row-length}
 use Rattle.rules.specs.declared.disk.Disk.{Disk}
-use Rattle.rules.specs.Answers.{endedAt, leftAt, released}
+use Rattle.rules.specs.Answers.{endedAt, leftAt}
 use Rattle.rules.specs.Disks.{Good}
-use Rattle.rules.proofs.ReleaseLaws.{release-early, release-active, sound-active, release-waiting, sound-waiting, release-lost}
 use Rattle.part.specs.Layout.{decode}
 use Rattle.part.specs.LayoutLaws.{decode-good}
 use Rattle.part.specs.Held.{held}
 use Rattle.place.specs.Holding.{Holds}
 use Rattle.place.specs.HoldingLaws.{decodes-holds, active-slots, waiting-slots}
 use Rattle.answer.specs.Answers.{refusalOf}
+use Rattle.desk.specs.Step.{released}
+use Rattle.desk.proofs.ReleaseLaws.{release-early, release-active, sound-active, release-waiting, sound-waiting, release-lost}
 use Rattle.desk.proofs.ServeLaws.{step-refused, made-long, made-decodes, made-sound, settle-as}
 use Rattle.desk.proofs.serve.serve_release.Statement.{statement}
 use Rattle.desk.proofs.serve.serve_release.Tie as tie

@@ -19,12 +19,14 @@ use Rattle.law.specs.DiskType.{diskTable, diskEntries}
 use Rattle.claims.specs.Rows.{Row, noClaim}
 use Rattle.claims.specs.RowLaws.{row-length, sum-turn, sum-end, every-on, every-not, every-end}
 use Rattle.lock.specs.Methods.{figuresOf, preOf}
-use Rattle.lock.specs.Loops.{coreOf, addOf, barsAt, barsOf, letsOf, costOf, DecidedIs}
-use Rattle.lock.proofs.LoopLaws.{found-at, bars-at, first-any-on, first-any-here, first-any-end, lets-at, cost-at, lock-not, lock-all, total-is}
-use Rattle.lock.proofs.DecideLaws.{from-not, not-fit, not-free, not-locked, not-placed, all-else, same-total, refusal}
+use Rattle.lock.specs.Pairs.{coreOf, addOf}
+use Rattle.lock.proofs.EntryLaws.{found-at}
 use Rattle.rules.specs.declared.disk.Disk.{Disk}
 use Rattle.rules.specs.Disks.{figuresIn}
 use Rattle.part.specs.Layout.{decode}
+use Rattle.judge.specs.Decisions.{barsAt, letsOf, costOf, DecidedIs}
+use Rattle.judge.proofs.WalkLaws.{bars-at, first-any-on, first-any-here, first-any-end, lets-at, cost-at, lock-not, lock-all, total-is}
+use Rattle.judge.proofs.DecideLaws.{from-not, not-fit, not-free, not-locked, not-placed, all-else, same-total, refusal}
 use Rattle.judge.proofs.step.decide.Statement.{statement}
 use Rattle.judge.proofs.step.decide.Tie as tie
 

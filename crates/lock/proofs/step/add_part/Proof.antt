@@ -2,8 +2,8 @@
 use borrow.Author.Needs.{needs}
 use native.Mathlib.Omega.{arith}
 use mir.Facts.{toZ-ofZ}
-use Rattle.lock.specs.Loops.{addOf}
-use Rattle.lock.proofs.LoopLaws.{add-is}
+use Rattle.lock.specs.Pairs.{addOf}
+use Rattle.lock.proofs.EntryLaws.{add-is}
 use Rattle.lock.proofs.step.add_part.Statement.{statement}
 use Rattle.lock.proofs.step.add_part.Tie as tie
 

@@ -2,8 +2,8 @@
 use borrow.Author.Needs.{needs}
 use borrow.Author.Tests.{le-leb, lt-leb}
 use mathlib.Core.Path.{_∙_}
-use Rattle.lock.specs.Loops.{barsBy}
-use Rattle.lock.proofs.LoopLaws.{last-test}
+use Rattle.lock.specs.Pairs.{barsBy}
+use Rattle.lock.proofs.EntryLaws.{last-test}
 use Rattle.lock.proofs.step.bars.Statement.{statement}
 use Rattle.lock.proofs.step.bars.Tie as tie
 

@@ -1,6 +1,6 @@
 -- The constant table follows the rule by kinds; a method that there is not reads nothing, and its entries are A.
 use mathlib.Core.Path.{_∙_}
-use Rattle.lock.proofs.LoopLaws.{entry-of, entry-row-past, entry-col-past}
+use Rattle.lock.proofs.EntryLaws.{entry-of, entry-row-past, entry-col-past}
 use Rattle.lock.proofs.step.entry.Statement.{statement}
 use Rattle.lock.proofs.step.entry.Tie as tie
 

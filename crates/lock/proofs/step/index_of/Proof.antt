@@ -1,7 +1,7 @@
 -- By whether there is such a method.
 use mathlib.Core.Path.{sym}
 use native.Mathlib.Omega.{arith}
-use Rattle.lock.proofs.LoopLaws.{index-is, index-past}
+use Rattle.lock.proofs.EntryLaws.{index-is, index-past}
 use Rattle.lock.proofs.step.index_of.Statement.{statement}
 use Rattle.lock.proofs.step.index_of.Tie as tie
 

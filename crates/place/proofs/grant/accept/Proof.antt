@@ -1,15 +1,11 @@
 -- The clock and the next ticket, and the grant: the part of the disk that the law leaves.
-use Prim.Native.Nat.{ℕ, _+_}
-use mathlib.Core.List.{List}
-use mathlib.Core.Path.{_≡_, sym, ap, _∙_, subst}
+use mathlib.Core.Path.{_∙_}
 use borrow.Author.Needs.{needs}
 use mir.Facts.{toZ-ofZ}
 use mir.Syntax.{w32}
 use mir.Val.{SFits}
-use Rattle.law.specs.Types.{Disk as LawDisk}
 use Rattle.rules.specs.declared.disk.Disk.{Disk}
 use Rattle.rules.specs.Answers.{grantedOf}
-use Rattle.rules.specs.Disks.{diskOf, DiskIs, grantOf}
 use Rattle.part.specs.Layout.{decode}
 use Rattle.place.specs.Holding.{Holds}
 use Rattle.place.specs.HoldingLaws.{holds-decode, holds-self, holds-part, decodes-holds}

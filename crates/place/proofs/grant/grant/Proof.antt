@@ -1,21 +1,15 @@
 -- A reading is put behind the active claims; a write raises them and notes its total first.
-use Prim.Native.Nat.{ℕ, _≤_, _<_}
-use mathlib.Core.Bool.{Bool}
-use mathlib.Core.List.{List}
-use mathlib.Core.Path.{_≡_, sym, ap, _∙_, subst}
+use Prim.Native.Nat.{_<_}
+use mathlib.Core.Path.{_≡_, sym, _∙_}
 use native.Mathlib.Omega.{arith}
 use borrow.Author.Needs.{needs}
-use lib.IntN.{ℤ}
 use mir.Facts.{toZ-ofZ}
 use mir.Syntax.{w32}
 use mir.Val.{SFits}
 use Rattle.rules.specs.declared.disk.Disk.{Disk}
-use Rattle.rules.specs.Disks.{raisedOf}
-use Rattle.law.specs.Granting.{putTold}
-use Rattle.rules.proofs.ChangeLaws.{grant-place}
 use Rattle.part.specs.Layout.{decode}
-use Rattle.place.specs.Holding.{Holds, withLast}
 use Rattle.place.specs.HoldingLaws.{holds-self}
+use Rattle.place.proofs.ChangeLaws.{grant-place}
 use Rattle.place.proofs.GrantLaws.{note-fits, read-grants, write-grants}
 use Rattle.place.proofs.grant.grant.Statement.{statement}
 use Rattle.place.proofs.grant.grant.Tie as tie

@@ -5,8 +5,8 @@ use mathlib.Core.Path.{sym, subst}
 use native.Mathlib.Omega.{arith}
 use borrow.Author.Needs.{needs}
 use Rattle.part.specs.Layout.{decode}
-use Rattle.place.specs.Holding.{Holds}
-use Rattle.place.proofs.GrantLaws.{noted, note-first, note-second, note-none}
+use Rattle.place.specs.Holding.{Holds, noted}
+use Rattle.place.proofs.GrantLaws.{note-first, note-second, note-none}
 use Rattle.place.proofs.grant.note.Statement.{statement}
 use Rattle.place.proofs.grant.note.Tie as tie
 

@@ -6,19 +6,18 @@ use native.Mathlib.Omega.{arith}
 use borrow.Author.Needs.{needs}
 use lib.ListN.{length}
 use Rattle.num.specs.RunLaws.{mid-splice}
-use Rattle.law.specs.declared.Attr.{Attr}
 use Rattle.law.specs.declared.Claim.{Claim}
 use Rattle.law.specs.Granting.{gap}
 use Rattle.law.specs.DiskType.{diskTable}
 use Rattle.lock.specs.Methods.{figuresOf}
-use Rattle.lock.specs.Loops.{raiseOf}
+use Rattle.lock.specs.Pairs.{raiseOf}
 use Rattle.rules.specs.declared.disk.Disk.{Disk}
-use Rattle.rules.specs.Disks.{coreIn, withActive, raisedOf}
+use Rattle.rules.specs.Disks.{coreIn}
 use Rattle.part.specs.Layout.{slots, decode}
 use Rattle.slots.specs.Slots.{mapTo, raiseWith}
-use Rattle.place.specs.Holding.{Holds}
+use Rattle.place.specs.Holding.{Holds, withActive, raisedOf}
 use Rattle.place.specs.HoldingLaws.{active-slots, active-kept, put-active-run}
-use Rattle.place.proofs.GrantLaws.{raisable, raises}
+use Rattle.place.proofs.ChangeLaws.{raisable, raises}
 use Rattle.place.proofs.grant.raise_on.Statement.{statement}
 use Rattle.place.proofs.grant.raise_on.Tie as tie
 
@@ -87,7 +86,7 @@ returns c =
     ap (withActive (disk k)) (e .1)
     ∙ ap (λ (cs : List Claim). withActive (disk k) (mapTo (a .n) (raiseWith (a .c .method) (c .before .before .before .before .raise-of .result)) cs)) (active-slots h)
     ∙ (λ i. withActive (disk k) (mapTo (k .pre .1 .1 .1 .1 .1 i) (raiseWith (a .c .method) (raise-is (c .before .before .before .before) i)) (disk k .active)))
-    ∙ raises (disk k) (a .c) (k .pre .1 .1 .0) (k .pre .1 .1 .1 .0) (k .pre .1 .1 .1 .1 .0) in
+    ∙ raises (disk k) (a .c) (k .pre .1 .1 .1 .1 .0) in
     subst (λ (r : List ℕ). Holds r (raisedOf (disk k) (a .c)))
     (sym (mid-splice 64 416 (a .s .now) row (omega arith) (omega (arith, k .pre .0)) (long (c .before .before))))
     (subst (Holds _) is (put-active-run h (e .0)))

@@ -1,7 +1,7 @@
 -- One word and the other.
 use Prim.Native.Nat.{ℕ}
 use mathlib.Core.List.{List}
-use mathlib.Core.Path.{_≡_, ap, _∙_, sym, subst}
+use mathlib.Core.Path.{ap, _∙_, sym, subst}
 use native.Mathlib.Omega.{arith}
 use borrow.Author.Needs.{needs}
 use Rattle.num.specs.Word.{putWord}

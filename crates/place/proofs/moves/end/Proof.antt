@@ -13,12 +13,12 @@ use Rattle.law.specs.declared.Claim.{Claim}
 use Rattle.claims.specs.Rows.{noClaim}
 use Rattle.claims.specs.RowLaws.{row-length}
 use Rattle.rules.specs.declared.disk.Disk.{Disk}
-use Rattle.rules.specs.Disks.{diskOf, Good, landOf, LandFits}
-use Rattle.rules.proofs.ReleaseLaws.{land-fits}
+use Rattle.rules.specs.Disks.{diskOf, Good}
 use Rattle.part.specs.Layout.{slots, decode}
 use Rattle.part.specs.LayoutLaws.{decode-good}
-use Rattle.place.specs.Holding.{Holds}
+use Rattle.place.specs.Holding.{Holds, landOf, LandFits}
 use Rattle.place.specs.HoldingLaws.{decodes-holds, active-slots, active-kept}
+use Rattle.place.proofs.ChangeLaws.{land-fits}
 use Rattle.place.proofs.MoveLaws.{end-part}
 use Rattle.place.proofs.moves.end.Statement.{statement}
 use Rattle.place.proofs.moves.end.Tie as tie

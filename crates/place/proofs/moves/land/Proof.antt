@@ -12,9 +12,8 @@ use Rattle.num.specs.Metric.{size-add}
 use Rattle.num.specs.Word.{putWord}
 use Rattle.num.specs.Signed.{putSigned}
 use Rattle.law.specs.declared.Attr.{Attr}
-use Rattle.rules.specs.Disks.{landOf}
 use Rattle.part.specs.Layout.{decode}
-use Rattle.place.specs.Holding.{Holds}
+use Rattle.place.specs.Holding.{Holds, landOf}
 use Rattle.place.proofs.MoveLaws.{set-used, add-promised, set-promised, set-state, land-leaves}
 use Rattle.place.proofs.moves.land.Statement.{statement}
 use Rattle.place.proofs.moves.land.Tie as tie

@@ -1,15 +1,14 @@
--- The disk is handed back as it was, and no item is filled.
+-- The number, and the disk of zeros.
 use mathlib.Core.Path.{refl}
 use borrow.Author.Needs.{needs}
-use Rattle.rules.proofs.ItemLaws.{items-none}
 use Rattle.rules.proofs.calls.refused.Statement.{statement}
 use Rattle.rules.proofs.calls.refused.Tie as tie
 
-no-item-requires : tie.Need-no-item-requires
-no-item-requires c κs = search needs
+empty-requires : tie.Need-empty-requires
+empty-requires c κs = search needs
 
 returns : tie.Need-returns
-returns c = rw (c .no-item .ensures) (refl, refl, refl, items-none)
+returns c = (refl, c .empty .ensures)
 
 pub refused-spec : {M : Type 1} → statement M
-refused-spec = tie.close (tie.spec no-item-requires returns)
+refused-spec = tie.close (tie.spec empty-requires returns)

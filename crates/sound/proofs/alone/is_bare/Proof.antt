@@ -4,7 +4,7 @@ use borrow.Author.Needs.{needs}
 use borrow.Author.Tests.{eq-eqb, ne-eqb}
 use mir.Facts.{toZ-ofZ}
 use Rattle.num.specs.Metric.{size}
-use Rattle.lock.proofs.LoopLaws.{last-test}
+use Rattle.lock.proofs.EntryLaws.{last-test}
 use Rattle.sound.proofs.alone.is_bare.Statement.{statement}
 use Rattle.sound.proofs.alone.is_bare.Tie as tie
 

@@ -1,7 +1,7 @@
 -- The two tests in their order; the entry is the law's.
 use mathlib.Core.Bool.{not}
 use mathlib.Core.List.{[], _∷_}
-use mathlib.Core.Path.{sym, ap, _∙_}
+use mathlib.Core.Path.{ap, _∙_}
 use borrow.Author.Needs.{needs}
 use borrow.Author.Tests.{eq-eqb, ne-eqb}
 use Rattle.law.specs.Entries.{isNever, entry}

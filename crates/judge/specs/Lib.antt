@@ -1,0 +1,2 @@
+-- The decision.
+pub mod Decisions
