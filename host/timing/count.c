@@ -1,4 +1,4 @@
-// One call of the desk in nine situations. Without an argument each is called once, between two marks that a trace
+// One call of the desk in thirteen situations. Without an argument each is called once, between two marks that a trace
 // shows; with one, it prints the ns that each takes. The few functions of the C library that it uses are declared here,
 // so that it compiles for x86-64 where there are no headers for x86-64.
 typedef unsigned char byte;
@@ -44,6 +44,12 @@ static void ready(int kind, int method, word twelve, word sixteen, word twenty) 
         printf("the board was not made ready: code %u\n", code);
         exit(1);
     }
+}
+
+// The disk, opened on an empty board.
+static void fresh(void) {
+    for (int i = 0; i < BOARD; i++) board[i] = 0;
+    ready(OPEN, 0, 0, 1000, 1000);
 }
 
 __attribute__((noinline)) void mark(void) { __asm__ volatile(""); }
@@ -93,7 +99,7 @@ __attribute__((noinline)) static void measure(const char *name, word code) {
 int main(int words, char **word_at) {
     (void)word_at;
     timed = words > 1;
-    ready(OPEN, 0, 0, 1000, 1000);
+    fresh();
     ask(9, DISK, 0, 0, 0, 0);
     measure("refusal 10", 10);
     ask(CLAIM, DISK + 1, READ_USED, 0, 0, 100);
@@ -117,5 +123,21 @@ int main(int words, char **word_at) {
     measure("release, 3 active, 2 waiting, no grant", 2);
     ask(RELEASE, DISK, 0, 3, 0, 0);
     measure("release, 3 active, 2 waiting, 2 grants", 2);
+
+    fresh();
+    for (int i = 0; i < 8; i++) ready(CLAIM, READ_USED, 0, 0, 100);
+    ask(CLAIM, DISK, NO_METHOD, 0, 0, 100);
+    measure("refusal 16, 8 readings active", 16);
+    ask(CLAIM, DISK, READ_USED, 0, 0, 100);
+    measure("reading waits, 8 readings active", 1);
+
+    fresh();
+    ready(CLAIM, READ_USED, 0, 0, 100);
+    ready(CLAIM, SET_STATE, 0, 1, 0);
+    for (int i = 0; i < 8; i++) ready(CLAIM, READ_STATE, 0, 0, 0);
+    ask(CLAIM, DISK, NO_METHOD, 0, 0, 100);
+    measure("refusal 16, 2 active, 8 waiting", 16);
+    ask(RELEASE, DISK, 0, 1, 0, 0);
+    measure("release, 2 active, 8 waiting, no grant", 2);
     return 0;
 }
