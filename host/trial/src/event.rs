@@ -38,6 +38,11 @@ impl Call {
         &self.bytes[..usize::from(self.len)]
     }
 
+    /// The record at its right length: a longer one is cut, a shorter one goes on with zeros.
+    pub fn whole(&self) -> [u8; RECORD] {
+        self.bytes[..RECORD].try_into().expect("24 bytes")
+    }
+
     /// Whether it claims a reading.
     pub fn reads(&self) -> bool {
         self.bytes[2] == 2 && (4..=6).contains(&self.bytes[4])

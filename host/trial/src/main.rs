@@ -1,12 +1,15 @@
 //! `trial --calls N --seed S`: so many calls to the desk and to the second program, compared.
 //! `trial --fuzz N --seed S`: so many runs on any bytes between guard pages.
-//! `--wrong NAME`: on a desk that is wrong; the trial has to fail. `--wrong list` names them.
+//! `trial --program N --seed S`: so many records through ./stopblocker, its lines compared.
+//! `--wrong NAME`: on a desk or an output that is wrong; the trial has to fail. `--wrong list` names them.
 
 use std::os::raw::c_long;
 use std::process::exit;
 use trial::beside::{Proved, Step};
+use trial::filters::FILTERS;
 use trial::fuzz::{fuzz, step, Raw};
 use trial::overrun::OVERRUNS;
+use trial::program;
 use trial::shrink::shrink;
 use trial::trial::{Failure, Trial};
 use trial::words;
@@ -29,12 +32,13 @@ fn processor_seconds() -> f64 {
 struct Asked {
     calls: u64,
     fuzz: u64,
+    program: u64,
     seed: u64,
     wrong: Option<String>,
 }
 
 fn usage(text: &str) -> ! {
-    eprintln!("trial: {text}\nusage: trial [--calls N] [--fuzz N] [--seed S] [--wrong NAME]");
+    eprintln!("trial: {text}\nusage: trial [--calls N] [--fuzz N] [--program N] [--seed S] [--wrong NAME]");
     exit(2)
 }
 
@@ -47,12 +51,13 @@ fn asked() -> Asked {
         match word.as_str() {
             "--calls" => asked.calls = number(),
             "--fuzz" => asked.fuzz = number(),
+            "--program" => asked.program = number(),
             "--seed" => asked.seed = number(),
             "--wrong" => asked.wrong = Some(value),
             _ => usage(&format!("what is {word}?")),
         }
     }
-    if asked.calls == 0 && asked.fuzz == 0 && asked.wrong.is_none() {
+    if asked.calls == 0 && asked.fuzz == 0 && asked.program == 0 && asked.wrong.is_none() {
         usage("nothing to do");
     }
     asked
@@ -101,6 +106,23 @@ fn fuzzed(asked: &Asked, desk: Raw) -> bool {
     }
 }
 
+/// The records through the program; false if a line differs, or a count was zero in a long run.
+fn program_compared(asked: &Asked, filter: Option<&str>) -> bool {
+    println!("program: seed {}, {} records", asked.seed, asked.program);
+    match program::compare(&|| program::program(filter), asked.program, asked.seed) {
+        Err(difference) => {
+            println!("program: {difference}");
+            false
+        }
+        Ok(counts) => {
+            let missing = counts.print();
+            println!("program: seed {}, {} records compared, no difference", asked.seed, counts.records);
+            missing.iter().for_each(|name| println!("program: not seen: {name}"));
+            missing.is_empty() || asked.program < program::SEES_ALL
+        }
+    }
+}
+
 fn main() {
     let asked = asked();
     let mut well = true;
@@ -112,18 +134,24 @@ fn main() {
             if asked.fuzz > 0 {
                 well &= fuzzed(&asked, step);
             }
+            if asked.program > 0 {
+                well &= program_compared(&asked, None);
+            }
         }
         Some("list") => {
             WRONGS.iter().for_each(|(name, _)| println!("{name} (--calls)"));
             OVERRUNS.iter().for_each(|(name, _)| println!("{name} (--fuzz)"));
+            FILTERS.iter().for_each(|(name, _)| println!("{name} (--program)"));
         }
         Some(name) => {
             let wrong = WRONGS.iter().find(|(known, _)| *known == name);
             let overrun = OVERRUNS.iter().find(|(known, _)| *known == name);
-            match (wrong, overrun) {
-                (Some((_, wrong)), _) => well = compared(&asked, &|| WrongDesk(*wrong)),
-                (_, Some((_, overrun))) => well = fuzzed(&asked, *overrun),
-                _ => usage(&format!("no wrong desk is named {name}")),
+            let filter = FILTERS.iter().find(|(known, _)| *known == name);
+            match (wrong, overrun, filter) {
+                (Some((_, wrong)), _, _) => well = compared(&asked, &|| WrongDesk(*wrong)),
+                (_, Some((_, overrun)), _) => well = fuzzed(&asked, *overrun),
+                (_, _, Some((_, filter))) => well = program_compared(&asked, Some(filter)),
+                _ => usage(&format!("nothing wrong is named {name}")),
             }
         }
     }

@@ -7,7 +7,10 @@ use crate::event::{Call, Event};
 use crate::odd;
 use crate::outside::Damaged;
 use second::record;
-use second::{Claim, Desk, Disk};
+use second::{Claim, Desk, Disk, RECORD};
+
+/// Of so many calls some are not what a disk is busy with.
+const OF_CALLS: u64 = 2_048;
 
 /// The methods that a disk is asked for.
 const MIXES: &[&[u8]] = &[
@@ -53,27 +56,51 @@ impl Traffic {
         if let Some(damaged) = self.damaged.take() {
             return self.on_damaged(damaged);
         }
-        let k = self.chance.below(4) as usize;
-        if self.chance.one_in(64) {
-            self.moods[k] = mood(&mut self.chance);
-        }
-        let number = self.disks[k];
-        let disk = usize::from(number);
-        match self.chance.below(2_048) {
+        let k = self.busy();
+        let disk = usize::from(self.disks[k]);
+        match self.chance.below(OF_CALLS) {
             0..=5 => self.damage(second, disk),
             6..=8 => self.odd(disk),
             9 => self.last_tickets(second, disk),
             10 => self.close(disk),
-            11..=34 => Event::Call(self.malformed(second, k)),
             35..=40 => Event::Call(self.other_length(second, k)),
-            41..=46 => Event::Call(self.disk_above_63(second, k)),
-            47..=54 => Event::Call(self.open(number)),
+            which if which > 55 && self.is_done(second.disk(disk)) => self.close(disk),
+            which => Event::Call(self.request(second, k, which)),
+        }
+    }
+
+    /// The next record of a run in which nothing is put on the board from outside: bad ones are 24 bytes long too.
+    pub fn record(&mut self, second: &Desk) -> [u8; RECORD] {
+        let k = self.busy();
+        let which = self.chance.below(OF_CALLS);
+        self.request(second, k, which).whole()
+    }
+
+    /// A record that takes tickets off one disk: readings and their releases, seldom more than one held.
+    pub fn wearing(&mut self, second: &Desk, number: u8) -> [u8; RECORD] {
+        self.call_on(second, number, Mood { methods: &[4, 5, 6], held: 0 }).whole()
+    }
+
+    /// One of the round's disks, now and then in another mood.
+    fn busy(&mut self) -> usize {
+        let k = self.chance.below(4) as usize;
+        if self.chance.one_in(64) {
+            self.moods[k] = mood(&mut self.chance);
+        }
+        k
+    }
+
+    /// A request: most are for what the disk is busy with.
+    fn request(&mut self, second: &Desk, k: usize, which: u64) -> Call {
+        match which {
+            11..=34 => self.malformed(second, k),
+            41..=46 => self.disk_above_63(second, k),
+            47..=54 => self.open(self.disks[k]),
             55 => {
                 self.disks[k] = self.chance.below(64) as u8;
-                Event::Call(self.call(second, k))
+                self.call(second, k)
             }
-            _ if self.is_done(second.disk(disk)) => self.close(disk),
-            _ => Event::Call(self.call(second, k)),
+            _ => self.call(second, k),
         }
     }
 
@@ -84,7 +111,10 @@ impl Traffic {
 
     /// A claim, a release or an open on one of the round's disks.
     pub(crate) fn call(&mut self, second: &Desk, k: usize) -> Call {
-        let (number, mood) = (self.disks[k], self.moods[k]);
+        self.call_on(second, self.disks[k], self.moods[k])
+    }
+
+    fn call_on(&mut self, second: &Desk, number: u8, mood: Mood) -> Call {
         let disk = match second.disk(usize::from(number)) {
             Some(disk) => disk,
             None => return self.call_on_shut(number),

@@ -8,6 +8,11 @@ use second::{sound, ANSWER, BOARD, PART};
 const METHODS: [&str; 7] =
     ["ReportUsed", "AddPromised", "SetPromised", "SetState", "ReadUsed", "ReadLoad", "ReadState"];
 
+/// A record by its number, as two lines.
+pub fn of_record(number: u64, record: &[u8]) -> String {
+    format!("{number:>9}  {}\n           {}\n", call_words(&Call::new(record)), hex(record))
+}
+
 pub fn print(events: &[Event]) {
     for (k, event) in events.iter().enumerate() {
         println!("{:>4}  {}", k + 1, words(event));

@@ -1,10 +1,12 @@
-//! A check that cannot fail is worth nothing: each wrong desk is seen, by a list of events that is short, and each call
-//! that leaves its buffers ends the fuzz run.
+//! A check that cannot fail is worth nothing: each wrong desk is seen, by a list of events that is short, each call that
+//! leaves its buffers ends the fuzz run, and each wrong output of the program is seen.
 
 use std::process::{Command, Output};
 use trial::beside::{Beside, Proved};
 use trial::event::{Call, Event, Why};
+use trial::filters::FILTERS;
 use trial::overrun::OVERRUNS;
+use trial::program::{compare, program};
 use trial::shrink::shrink;
 use trial::trial::{Failure, Trial};
 use trial::wrong::{Wrong, WrongDesk, WRONGS};
@@ -95,5 +97,50 @@ fn what_was_not_seen_is_named() {
     assert!(missing.len() > 17 + 9 + 19 + 1 + 40 + 20, "{missing:?}");
     for name in ["14 refused", "passes that grant 8", "11 of 11 clauses", "entry N among the active", "method 6"] {
         assert!(missing.iter().any(|text| text.contains(name)), "{name}: {missing:?}");
+    }
+}
+
+#[test]
+fn every_wrong_output_of_the_program_is_seen() {
+    for (name, _) in FILTERS {
+        for seed in ["1", "2"] {
+            let said = run(&["--program", "6000", "--seed", seed, "--wrong", name]);
+            let text = String::from_utf8_lossy(&said.stdout);
+            assert_eq!(said.status.code(), Some(1), "{name}: {text}");
+            let seen = if *name == "exit-status" { "ends with exit status: 3" } else { "differs:\n  expected " };
+            assert!(text.contains(&format!("seed {seed}, run 1, ")) && text.contains(seen), "{name}: {text}");
+        }
+    }
+    assert_eq!(run(&["--program", "6000", "--seed", "1"]).status.code(), Some(0));
+}
+
+/// A filter that alters nothing is no difference; an amount that is altered is, told with both lines and the disk's last
+/// records.
+#[test]
+fn a_line_that_differs_is_told() {
+    let through = |filter: &'static str| compare(&move || program(Some(filter)), 20_000, 5);
+    assert_eq!(through("cat").expect("no difference").runs, 2);
+    let text = through("awk '$1 == 3000 { $6 += 7 } 1'").expect_err("a difference");
+    let lines: Vec<&str> = text.lines().collect();
+    assert_eq!(lines[0], "seed 5, run 1, record 3000 differs:", "{text}");
+    let fields = |line: &str| -> Vec<String> {
+        let line = line.split('"').nth(1).expect("a line in quotes").trim_end_matches("\\n");
+        line.split(' ').map(str::to_string).collect()
+    };
+    let (expected, found) = (fields(lines[1]), fields(lines[2]));
+    assert_eq!((&expected[..5], expected[0].as_str()), (&found[..5], "3000"), "{text}");
+    assert_eq!(expected[5].parse::<u32>().unwrap() + 7, found[5].parse::<u32>().unwrap(), "{text}");
+    assert!(lines[3].starts_with("the last records of disk "), "{text}");
+    assert_eq!(lines.len(), 4 + 2 * 16, "{text}");
+    assert!(lines[34].starts_with("     3000  ") && lines[35].trim_start().len() == 24 * 3 - 1, "{text}");
+}
+
+/// A run of the program that saw nothing is told so: 15 codes and 6 other counts.
+#[test]
+fn what_the_program_did_not_meet_is_named() {
+    let missing = trial::lines::Counts::default().print();
+    assert_eq!(missing.len(), 15 + 6, "{missing:?}");
+    for name in ["code 0", "code 10", "code 19", "code 21", "short last pieces"] {
+        assert!(missing.iter().any(|text| text == name), "{name}: {missing:?}");
     }
 }
