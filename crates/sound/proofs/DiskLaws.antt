@@ -1,23 +1,26 @@
--- Laws of the test of a disk: where a test fails, of the figures or of a turn of the two walks, the disk is not sound; where
--- all pass, the sum decides.
+-- Laws of the disk that a part decodes to: its counts and claims as the code reads them, and that its tests in their order
+-- are the law's "Sound".
 use Prim.Native.Nat.{ℕ, _+_, _<_}
-use mathlib.Core.Bool.{Bool, true, false}
-use mathlib.Core.List.{List, [], _∷_}
-use mathlib.Core.Path.{_≡_, refl, sym, _∙_}
+use mathlib.Core.Bool.{true}
+use mathlib.Core.List.{List}
+use mathlib.Core.Path.{_≡_, refl, sym, ap, _∙_}
 use native.Mathlib.Omega.{arith}
-use lib.ListN.{take, drop, getD}
+use lib.ListN.{length, take, getD, length-append, List·getD-append}
+use lib.Seq.{getD-take, getD-append-add}
+use Rattle.num.specs.Word.{wordAt}
 use Rattle.law.specs.declared.Claim.{Claim}
-use Rattle.law.specs.Base.{allTrue, everyOf}
-use Rattle.law.specs.Sound.{sound}
+use Rattle.law.specs.Base.{allTrue}
+use Rattle.law.specs.Lists.{all-at}
+use Rattle.law.specs.Sound.{claimsOn, sound}
 use Rattle.law.specs.DiskType.{diskTable}
 use Rattle.claims.specs.Rows.{noClaim}
 use Rattle.claims.specs.RowLaws.{row-length}
 use Rattle.rules.specs.declared.disk.Disk.{Disk}
-use Rattle.rules.specs.Disks.{figuresIn, diskOf, Good}
-use Rattle.sound.specs.Tests.{figuresFit, activeFits, waitingFits, apart, meets, follows, activeWalk, waitingWalk, sumTest, codeFront, codeTests}
-use Rattle.sound.proofs.TestLaws.{test-fails, test-last}
-use Rattle.sound.proofs.WalkLaws.{walk-not, walk-on}
-use Rattle.sound.proofs.SoundLaws.{sound-is}
+use Rattle.rules.specs.Disks.{diskOf, Good}
+use Rattle.part.specs.Layout.{decode, decodes}
+use Rattle.part.specs.LayoutLaws.{decode-good}
+use Rattle.sound.specs.Tests.{eachActive, codeTests}
+use Rattle.sound.proofs.SoundLaws.{sound-is, methods-there}
 
 -- The claims of a disk.
 abbrev pub actives : Disk → List Claim
@@ -26,66 +29,64 @@ actives d = take (d .actives) (d .active)
 abbrev pub waitings : Disk → List Claim
 waitings d = take (d .waitings) (d .waiting)
 
-module _ (d : Disk) (g : Good d) where
-  -- The arrays hold at most eight claims each.
-  whole : allTrue (codeTests (diskOf d)) ≡ sound diskTable (diskOf d)
+-- The words of a part.
+pub clock-read : (s : List ℕ) → wordAt s 0 ≡ decode s .clock
+unfolding decode
+clock-read s = refl
+
+pub next-read : (s : List ℕ) → wordAt s 4 ≡ decode s .next
+unfolding decode
+next-read s = refl
+
+pub actives-read : (s : List ℕ) → wordAt s 8 ≡ decode s .actives
+unfolding decode
+actives-read s = refl
+
+pub waitings-read : (s : List ℕ) → wordAt s 12 ≡ decode s .waitings
+unfolding decode
+waitings-read s = refl
+
+module _ (s : List ℕ) (l : length s ≡ 768) (h : decodes s ≡ true) where
+  pub good : Good (decode s)
+  good = decode-good s l h
+
+  pub some-active : length (actives (decode s)) ≡ decode s .actives
+  some-active = row-length (good .active)
+
+  pub some-waiting : length (waitings (decode s)) ≡ decode s .waitings
+  some-waiting = row-length (good .waiting)
+
+  pub whole : allTrue (codeTests (diskOf (decode s))) ≡ sound diskTable (diskOf (decode s))
   whole =
-      sound-is (diskOf d) (omega (arith, row-length (g .active), g .active .few))
-      (omega (arith, row-length (g .waiting), g .waiting .few))
+      sound-is (diskOf (decode s)) (omega (arith, some-active, good .active .few))
+      (omega (arith, some-waiting, good .waiting .few))
 
-  pub figures-not : figuresFit (figuresIn d) (d .clock) (d .next) ≡ false → false ≡ sound diskTable (diskOf d)
-  figures-not e = test-fails (codeTests (diskOf d)) 0 e ∙ whole
+  -- Claim i of the active ones, and of the waiting ones.
+  pub active-stands : (i : ℕ) → i < decode s .actives → getD (decode s .active) i noClaim ≡ getD (actives (decode s)) i noClaim
+  active-stands i k = sym (getD-take (decode s .actives) (decode s .active) i noClaim k)
 
-  pub sum-last : figuresFit (figuresIn d) (d .clock) (d .next) ≡ true → activeWalk (diskOf d) (actives d) ≡ true →
-      waitingWalk (diskOf d) (waitings d) ≡ true → sumTest (diskOf d) ≡ sound diskTable (diskOf d)
-  sum-last e a w = test-last (codeFront (diskOf d)) (sumTest (diskOf d)) (e, (a, (w, tt))) ∙ whole
+  pub waiting-stands : (i : ℕ) → i < decode s .waitings → getD (decode s .waiting) i noClaim ≡ getD (waitings (decode s)) i noClaim
+  waiting-stands i k = sym (getD-take (decode s .waitings) (decode s .waiting) i noClaim k)
 
-  -- A turn among the active claims, of which the walk from i on decides.
-  module _ (i : ℕ) (h : i < d .actives)
-      (inv : activeWalk (diskOf d) (drop i (actives d)) ≡ activeWalk (diskOf d) (actives d)) where
-    abbrev active : Claim
-    active = getD (d .active) i noClaim
+  -- Claim i of all: the active ones first.
+  pub some-claims : length (claimsOn (diskOf (decode s))) ≡ decode s .actives + decode s .waitings
+  some-claims = omega (arith, length-append (actives (decode s)) (waitings (decode s)), some-active, some-waiting)
 
-    abbrev activeTurn : List Bool
-    activeTurn =
-        activeFits (figuresIn d) (d .clock) (d .next) active
-        ∷ everyOf (meets active) (drop (i + 1) (actives d))
-        ∷ everyOf (apart active) (waitings d)
-        ∷ activeWalk (diskOf d) (drop (i + 1) (actives d))
-        ∷ []
+  pub active-on : (i : ℕ) → i < decode s .actives →
+      getD (decode s .active) i noClaim ≡ getD (claimsOn (diskOf (decode s))) i noClaim
+  active-on i k =
+      active-stands i k ∙ sym (List·getD-append (actives (decode s)) (waitings (decode s)) noClaim i (omega (arith, some-active)))
 
-    pub active-not : (k : ℕ) → getD activeTurn k true ≡ false → false ≡ sound diskTable (diskOf d)
-    active-not k e =
-        test-fails (codeTests (diskOf d)) 1
-        (sym (walk-not (g .active) (activeFits (figuresIn d) (d .clock) (d .next)) meets apart (waitings d) i k h e ∙ inv))
-        ∙ whole
+  pub waiting-on : (k : ℕ) → k < decode s .waitings →
+      getD (decode s .waiting) k noClaim ≡ getD (claimsOn (diskOf (decode s))) (decode s .actives + k) noClaim
+  waiting-on k g =
+      waiting-stands k g
+      ∙ sym (getD-append-add (actives (decode s)) (waitings (decode s)) k noClaim)
+      ∙ ap (λ (n : ℕ). getD (claimsOn (diskOf (decode s))) (n + k) noClaim) some-active
 
-    pub active-on : activeFits (figuresIn d) (d .clock) (d .next) active ≡ true →
-        everyOf (meets active) (drop (i + 1) (actives d)) ≡ true → everyOf (apart active) (waitings d) ≡ true →
-        activeWalk (diskOf d) (drop (i + 1) (actives d)) ≡ activeWalk (diskOf d) (actives d)
-    active-on e m a = walk-on (g .active) (activeFits (figuresIn d) (d .clock) (d .next)) meets apart (waitings d) i h e m a ∙ inv
-
-  -- A turn among the waiting claims.
-  module _ (i : ℕ) (h : i < d .waitings)
-      (inv : waitingWalk (diskOf d) (drop i (waitings d)) ≡ waitingWalk (diskOf d) (waitings d)) where
-    abbrev waiting : Claim
-    waiting = getD (d .waiting) i noClaim
-
-    abbrev waitingTurn : List Bool
-    waitingTurn =
-        waitingFits (figuresIn d) (d .clock) (d .next) waiting
-        ∷ everyOf (follows waiting) (drop (i + 1) (waitings d))
-        ∷ everyOf (apart waiting) []
-        ∷ waitingWalk (diskOf d) (drop (i + 1) (waitings d))
-        ∷ []
-
-    pub waiting-not : (k : ℕ) → getD waitingTurn k true ≡ false → false ≡ sound diskTable (diskOf d)
-    waiting-not k e =
-        test-fails (codeTests (diskOf d)) 2
-        (sym (walk-not (g .waiting) (waitingFits (figuresIn d) (d .clock) (d .next)) follows apart [] i k h e ∙ inv))
-        ∙ whole
-
-    pub waiting-on : waitingFits (figuresIn d) (d .clock) (d .next) waiting ≡ true →
-        everyOf (follows waiting) (drop (i + 1) (waitings d)) ≡ true →
-        waitingWalk (diskOf d) (drop (i + 1) (waitings d)) ≡ waitingWalk (diskOf d) (waitings d)
-    waiting-on e m = walk-on (g .waiting) (waitingFits (figuresIn d) (d .clock) (d .next)) follows apart [] i h e m refl ∙ inv
+  -- The method of an active claim that fits.
+  pub method-there : eachActive (diskOf (decode s)) ≡ true → (i : ℕ) → i < decode s .actives →
+      getD (decode s .active) i noClaim .method < 7
+  method-there e i k =
+      rw (active-stands i k)
+      (all-at (λ c. c .method < 7) (actives (decode s)) noClaim i (omega (arith, some-active)) (methods-there (diskOf (decode s)) e))

@@ -1,4 +1,5 @@
 pub mod TestLaws
 pub mod WalkLaws
+pub mod TicketLaws
 pub mod SoundLaws
 pub mod DiskLaws

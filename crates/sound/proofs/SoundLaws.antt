@@ -3,33 +3,27 @@
 use Prim.Native.Nat.{ℕ, _+_, _≤_, _<_}
 use mathlib.Core.Bool.{Bool, true, false, cond, not, _||_}
 use mathlib.Core.List.{List, [], _∷_, map}
-use mathlib.Core.Path.{_≡_, refl, sym}
+use mathlib.Core.Path.{_≡_, refl}
 use native.Mathlib.Omega.{arith}
 use borrow.Author.Tests.{ltb-true, leb-false, leb-true, eqb-true, lt-ltb, le-leb, lt-leb}
 use lib.Dec.{leb, ltb}
 use lib.ListN.{length}
 use Rattle.num.specs.Metric.{size}
 use Rattle.law.specs.declared.Claim.{Claim}
-use Rattle.law.specs.Base.{allTrue, everyOf, everyPair}
-use Rattle.law.specs.Lists.{All, Pairs, never-true, all-say, all-both, all-true, all-append, all-left, all-right, pairs-join, pairs-left, pairs-right, pairs-cross, and-left, and-right, Passed, passed, all-passed, every-tests, sum-zero}
+use Rattle.law.specs.Base.{allTrue, everyOf}
+use Rattle.law.specs.Lists.{All, never-true, all-say, all-both, all-true, all-append, all-left, all-right, and-left, and-right, Passed, passed, all-passed, every-tests, sum-zero}
 use Rattle.law.specs.Types.{mostValue, mostPriority, mostFlag, places, lastTicket, Attribute, a0, a1, a2, Kind, sets, adds, reads, Figures, attr, Disk}
-use Rattle.law.specs.Entries.{kindOf, entry, isNever}
+use Rattle.law.specs.Entries.{kindOf}
 use Rattle.law.specs.Granting.{addsTo, addsOn}
-use Rattle.law.specs.Calls.{valueFits, fieldTests, ownFits, before}
+use Rattle.law.specs.Calls.{valueFits, fieldTests, ownFits}
 use Rattle.law.specs.Sound.{eachAttribute, bare, bareBy, readingBy, limitFits, formed, sumFits, claimsOn, passes, soundTests, sound}
 use Rattle.law.specs.Says.{_and_}
 use Rattle.law.specs.DiskType.{diskTable}
 use Rattle.law.specs.TableLaws.{disk-methods}
 use Rattle.lock.specs.Pairs.{addOf}
 use Rattle.lock.proofs.EntryLaws.{each-kind}
-use Rattle.sound.specs.Tests.{figureTests, figureFits, figuresTests, figuresFit, claimTests, claimFits, toldTests, toldFits, activeTests, activeFits, waitingTests, waitingFits, apart, meetTests, meets, followTests, follows, activeWalk, waitingWalk, codeTests}
-use Rattle.sound.proofs.WalkLaws.{says-all, says-two-by-two, Walked, says-walk}
-
--- Two tests of which each passes where the other does are equal.
-same-test : (a b : Bool) → (a ≡ true → b ≡ true) → (b ≡ true → a ≡ true) → a ≡ b
-same-test true b f g = sym (f refl)
-same-test false true f g = g refl
-same-test false false f g = refl
+use Rattle.sound.specs.Tests.{figureTests, figureFits, figuresTests, figuresFit, claimTests, claimFits, toldTests, toldFits, activeTests, activeFits, waitingTests, waitingFits, eachActive, sumTest, waitingsFit, codeTests}
+use Rattle.sound.proofs.WalkLaws.{same-test, says-all}
 
 -- ---- the three attributes
 
@@ -58,19 +52,6 @@ every-row : (ps : List (Claim → Bool)) (xs : List Claim) → All (λ p. everyO
     All (λ x. Passed (map (λ p. p x) ps)) xs
 every-row ps [] h = tt
 every-row ps (x ∷ xs) h = (row-here ps x xs h, every-row ps xs (row-rest ps x xs h))
-
--- Of every two claims that pass a test, and of every two that pass two tests.
-module _ (r s : Claim → Claim → Bool) (f : (x y : Claim) → r x y ≡ true → s x y ≡ true) where
-  pairs-say : (xs : List Claim) → Pairs (λ x y. r x y ≡ true) xs → Pairs (λ x y. s x y ≡ true) xs
-  pairs-say [] h = tt
-  pairs-say (x ∷ xs) h = (all-say (λ y. r x y ≡ true) (λ y. s x y ≡ true) (f x) xs (h .0), pairs-say xs (h .1))
-
-module _ (r s t : Claim → Claim → Bool) (f : (x y : Claim) → r x y ≡ true → s x y ≡ true → t x y ≡ true) where
-  pairs-both : (xs : List Claim) → Pairs (λ x y. r x y ≡ true) xs → Pairs (λ x y. s x y ≡ true) xs →
-      Pairs (λ x y. t x y ≡ true) xs
-  pairs-both [] h k = tt
-  pairs-both (x ∷ xs) h k =
-      (all-both (λ y. r x y ≡ true) (λ y. s x y ≡ true) (λ y. t x y ≡ true) (f x) xs (h .0) (k .0), pairs-both xs (h .1) (k .1))
 
 -- ---- a claim
 
@@ -160,29 +141,6 @@ law-told : (c : Claim) → bareBy (kindOf diskTable c) c ≡ true → readingBy 
 unfolding toldFits
 law-told c h k = all-passed (toldTests c) (h, (k, tt))
 
--- ---- two claims
-
--- Their entry is not N.
-abbrev goes : Claim → Claim → Bool
-goes x y = not (isNever (entry diskTable x y))
-
-module _ (x y : Claim) where
-  meet-law : meets x y ≡ true → Passed (meetTests x y)
-  unfolding meets
-  meet-law h = passed (meetTests x y) h
-
-  law-meet : apart x y ≡ true → goes x y ≡ true → meets x y ≡ true
-  unfolding meets
-  law-meet h k = all-passed (meetTests x y) (h, (k, tt))
-
-  follow-law : follows x y ≡ true → Passed (followTests x y)
-  unfolding follows
-  follow-law h = passed (followTests x y) h
-
-  law-follow : apart x y ≡ true → before x y ≡ true → follows x y ≡ true
-  unfolding follows
-  law-follow h k = all-passed (followTests x y) (h, (k, tt))
-
 -- ---- the sums: no method adds to used
 
 no-adds : (ws : List Claim) → addsOn diskTable a0 ws ≡ 0
@@ -190,6 +148,20 @@ no-adds ws =
     sum-zero (λ w. cond (addsTo a0 (kindOf diskTable w)) (size (w .value)) 0) ws
     (all-true (λ w. cond (addsTo a0 (kindOf diskTable w)) (size (w .value)) 0 ≡ 0)
     (λ w. each-kind (λ k. cond (addsTo a0 k) (size (w .value)) 0 ≡ 0) refl refl refl refl refl refl refl refl (w .method)) ws)
+
+-- ---- methods
+
+-- Each active claim that fits has a method that there is.
+method-there : (f : Figures) (now next : ℕ) (c : Claim) → activeFits f now next c ≡ true → c .method < 7
+unfolding activeFits claimFits
+method-there f now next c h =
+    ltb-true (c .method) 7 (passed (claimTests next c) (passed (activeTests f now next c) h .0) .1 .1 .1 .1 .0)
+
+pub methods-there : (d : Disk) → eachActive d ≡ true → All (λ c. c .method < 7) (d .core .active)
+methods-there d h =
+    let fit = activeFits (d .core .figures) (d .core .clock) (d .next) in
+    all-say (λ c. fit c ≡ true) (λ c. c .method < 7) (method-there (d .core .figures) (d .core .clock) (d .next)) (d .core .active)
+    (says-all fit (d .core .active) .0 h)
 
 -- ---- the whole
 
@@ -256,34 +228,23 @@ module _ (d : Disk) (few : length (d .core .active) ≤ places) (few-waiting : l
     unfolding figureFits
     state = passed (figureTests a2 now (f .f2)) (figures .1 .1 .1 .1 .0)
 
-    walked : Walked (activeFits f now (d .next)) meets apart vs ws
-    walked = says-walk (activeFits f now (d .next)) meets apart vs ws .0 (h .1 .0)
+    actives : Passed (eachActive d ∷ sumTest d ∷ [])
+    actives = passed (eachActive d ∷ sumTest d ∷ []) (h .1 .0)
 
-    waited : Walked (waitingFits f now (d .next)) follows apart [] vs
-    waited = says-walk (waitingFits f now (d .next)) follows apart [] vs .0 (h .1 .1 .0)
+    walked : All Active ws
+    walked = says-all (activeFits f now (d .next)) ws .0 (actives .0)
+
+    waited : All Waiting vs
+    waited = says-all (waitingFits f now (d .next)) vs .0 (h .1 .1 .1 .0)
 
     lawful : All (Lawful f now (d .next)) (claimsOn d)
     lawful =
         all-append (Lawful f now (d .next)) ws vs
-        (all-say Active (Lawful f now (d .next)) (active-law f now (d .next)) ws (walked .0))
-        (all-say Waiting (Lawful f now (d .next)) (waiting-law f now (d .next)) vs (waited .0))
+        (all-say Active (Lawful f now (d .next)) (active-law f now (d .next)) ws walked)
+        (all-say Waiting (Lawful f now (d .next)) (waiting-law f now (d .next)) vs waited)
 
     on-all : (q : Claim → Bool) → ((c : Claim) → Lawful f now (d .next) c → q c ≡ true) → everyOf q (claimsOn d) ≡ true
     on-all q g = every-tests q (Lawful f now (d .next)) g (claimsOn d) lawful
-
-    distinct : everyPair apart (claimsOn d) ≡ true
-    distinct =
-        says-two-by-two apart (claimsOn d) .1
-        (pairs-join (λ x y. apart x y ≡ true) ws vs
-        (pairs-say meets apart (λ x y e. meet-law x y e .0) ws (walked .1))
-        (pairs-say follows apart (λ x y e. follow-law x y e .0) vs (waited .1))
-        (walked .2))
-
-    no-never : everyPair goes ws ≡ true
-    no-never = says-two-by-two goes ws .1 (pairs-say meets goes (λ x y e. meet-law x y e .1 .0) ws (walked .1))
-
-    order : everyPair before vs ≡ true
-    order = says-two-by-two before vs .1 (pairs-say follows before (λ x y e. follow-law x y e .1 .0) vs (waited .1))
 
     sum-used : sumsTest a0 ≡ true
     sum-used =
@@ -292,14 +253,14 @@ module _ (d : Disk) (few : length (d .core .active) ≤ places) (few-waiting : l
 
     sum-promised : sumsTest a1 ≡ true
     unfolding addOf
-    sum-promised = h .1 .1 .1 .0
+    sum-promised = actives .1 .0
 
     code-sound : sound diskTable d ≡ true
     unfolding sound soundTests
     code-sound =
         all-passed (soundTests diskTable d)
-        (every-tests (λ c. bareBy (kindOf diskTable c) c) Active (λ c e. active-told f now (d .next) c e .0) ws (walked .0)
-        and every-tests bare Waiting (waiting-bare f now (d .next)) vs (waited .0)
+        (every-tests (λ c. bareBy (kindOf diskTable c) c) Active (λ c e. active-told f now (d .next) c e .0) ws walked
+        and every-tests bare Waiting (waiting-bare f now (d .next)) vs waited
         and each valueTest (used .0) (promised .0) (state .0)
         and each limitTest (used .1 .0) (promised .1 .0) (state .1 .0)
         and on-all formed (λ c l. l .in-form)
@@ -310,14 +271,14 @@ module _ (d : Disk) (few : length (d .core .active) ≤ places) (few-waiting : l
         and figures .1 .0
         and le-leb (length ws) places few
         and le-leb (length vs) places few-waiting
-        and distinct
+        and h .1 .1 .1 .1 .1 .0
         and on-all (λ c. leb 1 (c .ticket)) (λ c l. l .first)
         and on-all (λ c. ltb (c .ticket) (d .next)) (λ c l. l .below)
         and on-all (passes diskTable f now) (λ c l. l .passing)
-        and every-tests (λ c. readingBy (kindOf diskTable c) c) Active (λ c e. active-told f now (d .next) c e .1 .0) ws (walked .0)
+        and every-tests (λ c. readingBy (kindOf diskTable c) c) Active (λ c e. active-told f now (d .next) c e .1 .0) ws walked
         and each sumsTest sum-used sum-promised refl
-        and no-never
-        and order
+        and h .1 .1 .0
+        and h .1 .1 .1 .1 .0
         and tt)
 
   -- What the law tests gives what the code tests.
@@ -344,33 +305,22 @@ module _ (d : Disk) (few : length (d .core .active) ≤ places) (few-waiting : l
       (λ c t. record { in-form = t .0; timely = t .1 .0; first = t .1 .1 .0; below = t .1 .1 .1 .0; passing = t .1 .1 .1 .1 .0 })
       (claimsOn d) (every-row everywhere (claimsOn d) h)
 
-  law-active-walk : everyOf (λ c. bareBy (kindOf diskTable c) c) ws ≡ true →
-      everyOf (λ c. readingBy (kindOf diskTable c) c) ws ≡ true →
-      All (Lawful f now (d .next)) (claimsOn d) → everyPair apart (claimsOn d) ≡ true → everyPair goes ws ≡ true →
-      activeWalk d ws ≡ true
-  law-active-walk b r l a n =
-      let pairs = says-two-by-two apart (claimsOn d) .0 a in
+  law-actives : everyOf (λ c. bareBy (kindOf diskTable c) c) ws ≡ true →
+      everyOf (λ c. readingBy (kindOf diskTable c) c) ws ≡ true → All (Lawful f now (d .next)) (claimsOn d) →
+      eachActive d ≡ true
+  law-actives b r l =
       let told =
       all-both (λ c. bareBy (kindOf diskTable c) c ≡ true) (λ c. readingBy (kindOf diskTable c) c ≡ true) (λ c. toldFits c ≡ true)
       law-told ws (says-all (λ c. bareBy (kindOf diskTable c) c) ws .0 b) (says-all (λ c. readingBy (kindOf diskTable c) c) ws .0 r) in
-      says-walk (activeFits f now (d .next)) meets apart vs ws .1 (
-        all-both (Lawful f now (d .next)) (λ c. toldFits c ≡ true) Active (law-active f now (d .next)) ws
-            (all-left (Lawful f now (d .next)) ws vs l) told,
-        pairs-both apart goes meets law-meet ws (pairs-left (λ x y. apart x y ≡ true) ws vs pairs) (says-two-by-two goes ws .0 n),
-        pairs-cross (λ x y. apart x y ≡ true) ws vs pairs,
-      )
+      says-all (activeFits f now (d .next)) ws .1
+      (all-both (Lawful f now (d .next)) (λ c. toldFits c ≡ true) Active (law-active f now (d .next)) ws
+      (all-left (Lawful f now (d .next)) ws vs l) told)
 
-  law-waiting-walk : everyOf bare vs ≡ true → All (Lawful f now (d .next)) (claimsOn d) → everyPair apart (claimsOn d) ≡ true →
-      everyPair before vs ≡ true → waitingWalk d vs ≡ true
-  law-waiting-walk b l a o =
-      let pairs = says-two-by-two apart (claimsOn d) .0 a in
-      says-walk (waitingFits f now (d .next)) follows apart [] vs .1 (
-        all-both (Lawful f now (d .next)) (λ c. bare c ≡ true) Waiting (law-waiting f now (d .next)) vs
-            (all-right (Lawful f now (d .next)) ws vs l) (says-all bare vs .0 b),
-        pairs-both apart before follows law-follow vs (pairs-right (λ x y. apart x y ≡ true) ws vs pairs)
-            (says-two-by-two before vs .0 o),
-        all-true (λ x. All (λ y. apart x y ≡ true) []) (λ x. tt) vs,
-      )
+  law-waitings : everyOf bare vs ≡ true → All (Lawful f now (d .next)) (claimsOn d) → waitingsFit d ≡ true
+  law-waitings b l =
+      says-all (waitingFits f now (d .next)) vs .1
+      (all-both (Lawful f now (d .next)) (λ c. bare c ≡ true) Waiting (law-waiting f now (d .next)) vs
+      (all-right (Lawful f now (d .next)) ws vs l) (says-all bare vs .0 b))
 
   law-code : sound diskTable d ≡ true → Passed (codeTests d)
   unfolding sound soundTests addOf
@@ -383,9 +333,11 @@ module _ (d : Disk) (few : length (d .core .active) ≤ places) (few-waiting : l
       let x = w .1 .1 .1 .1 in
       let l = all-lawful (u .1 .1 .0 and u .1 .1 .1 .1 .1 .0 and w .1 .0 and w .1 .1 .0 and w .1 .1 .1 .0 and tt) in
       law-figures (v .0) (v .1 .0) (u .0) (u .1 .0) (u .1 .1 .1 .0) (u .1 .1 .1 .1 .0)
-      and law-active-walk (t .0) (x .0) l (w .0) (x .1 .1 .0)
-      and law-waiting-walk (t .1 .0) l (w .0) (x .1 .1 .1 .0)
-      and of-each sumsTest (x .1 .0) .1
+      and all-passed (eachActive d ∷ sumTest d ∷ []) (law-actives (t .0) (x .0) l and of-each sumsTest (x .1 .0) .1 and tt)
+      and x .1 .1 .0
+      and law-waitings (t .1 .0) l
+      and x .1 .1 .1 .0
+      and w .0
       and tt
 
   pub sound-is : allTrue (codeTests d) ≡ sound diskTable d

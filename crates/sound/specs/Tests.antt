@@ -1,17 +1,17 @@
 -- What the code tests of a disk, in its own order: its figures, its active claims, its waiting ones. The tests of single
 -- claims and attributes are the law's.
 use Prim.Native.Nat.{ℕ, _+_}
-use mathlib.Core.Bool.{Bool, true, not}
+use mathlib.Core.Bool.{Bool, not}
 use mathlib.Core.List.{List, [], _∷_, _++_}
 use lib.Dec.{leb, ltb, eqb}
 use Rattle.num.specs.Metric.{size}
 use Rattle.law.specs.declared.Attr.{Attr}
 use Rattle.law.specs.declared.Claim.{Claim}
-use Rattle.law.specs.Base.{allTrue, everyOf, sumOf}
+use Rattle.law.specs.Base.{allTrue, everyOf, everyPair, sumOf}
 use Rattle.law.specs.Types.{mostValue, mostPriority, mostFlag, lastTicket, Attribute, a0, a1, a2, Figures, attr, Disk as LawDisk}
 use Rattle.law.specs.Entries.{kindOf, entry, isNever}
 use Rattle.law.specs.Calls.{valueFits, fieldTests, ownFits, before}
-use Rattle.law.specs.Sound.{bare, bareBy, readingBy, limitFits}
+use Rattle.law.specs.Sound.{bare, bareBy, readingBy, limitFits, claimsOn}
 use Rattle.law.specs.DiskType.{diskTable}
 use Rattle.lock.specs.Pairs.{addOf}
 
@@ -82,49 +82,41 @@ waitingFits f now next c = allTrue (waitingTests f now next c)
 abbrev pub apart : Claim → Claim → Bool
 apart x y = not (eqb (x .ticket) (y .ticket))
 
--- Two active claims.
-abbrev pub meetTests : Claim → Claim → List Bool
-meetTests x y = apart x y ∷ not (isNever (entry diskTable x y)) ∷ []
+-- Two active claims: their entry is not N.
+abbrev pub meets : Claim → Claim → Bool
+meets x y = not (isNever (entry diskTable x y))
 
-unfoldable pub meets : Claim → Claim → Bool
-meets x y = allTrue (meetTests x y)
+-- ---- the claims of a disk
 
--- Two waiting claims, the one in front first.
-abbrev pub followTests : Claim → Claim → List Bool
-followTests x y = apart x y ∷ before x y ∷ []
+-- Each active claim by itself; then |promised| with the |d| of the active adds.
+abbrev pub eachActive : LawDisk → Bool
+eachActive d = everyOf (activeFits (d .core .figures) (d .core .clock) (d .next)) (d .core .active)
 
-unfoldable pub follows : Claim → Claim → Bool
-follows x y = allTrue (followTests x y)
-
--- ---- the walks
-
--- Each claim of a list passes p, r with each one behind it, and s with each of the others.
-unfoldable pub walk : (Claim → Bool) → (Claim → Claim → Bool) → (Claim → Claim → Bool) → List Claim → List Claim → Bool
-walk p r s others [] = true
-walk p r s others (x ∷ xs) =
-    allTrue (p x ∷ everyOf (r x) xs ∷ everyOf (s x) others ∷ walk p r s others xs ∷ [])
-
--- The active claims from some place on, with the waiting ones as the others.
-abbrev pub activeWalk : LawDisk → List Claim → Bool
-activeWalk d ws = walk (activeFits (d .core .figures) (d .core .clock) (d .next)) meets apart (d .waiting) ws
-
--- The waiting claims from some place on.
-abbrev pub waitingWalk : LawDisk → List Claim → Bool
-waitingWalk d ws = walk (waitingFits (d .core .figures) (d .core .clock) (d .next)) follows apart [] ws
-
--- |promised| with the |d| of the active adds.
 abbrev pub sumTest : LawDisk → Bool
 sumTest d = leb (size (attr (d .core .figures) a1 .value) + sumOf addOf (d .core .active)) mostValue
 
+abbrev pub activesFit : LawDisk → Bool
+activesFit d = allTrue (eachActive d ∷ sumTest d ∷ [])
+
+-- Each waiting claim by itself.
+abbrev pub waitingsFit : LawDisk → Bool
+waitingsFit d = everyOf (waitingFits (d .core .figures) (d .core .clock) (d .next)) (d .waiting)
+
+-- The tickets of all of them.
+abbrev pub ticketsDiffer : LawDisk → Bool
+ticketsDiffer d = everyPair apart (claimsOn d)
+
 -- ---- the whole
 
--- The figures, the two walks; then the sum. (SoundLaws: these together are the law's "Sound".)
+-- The figures, the active claims, the waiting ones; then the tickets. (SoundLaws: these together are the law's "Sound".)
 abbrev pub codeFront : LawDisk → List Bool
 codeFront d =
     figuresFit (d .core .figures) (d .core .clock) (d .next)
-    ∷ activeWalk d (d .core .active)
-    ∷ waitingWalk d (d .waiting)
+    ∷ activesFit d
+    ∷ everyPair meets (d .core .active)
+    ∷ waitingsFit d
+    ∷ everyPair before (d .waiting)
     ∷ []
 
 abbrev pub codeTests : LawDisk → List Bool
-codeTests d = codeFront d ++ (sumTest d ∷ [])
+codeTests d = codeFront d ++ (ticketsDiffer d ∷ [])

@@ -1,11 +1,18 @@
 // The figures of a disk: ranges, amounts and stamps, and the next ticket.
 
 ghost use mathlib.Core.Path.{_≡_};
+ghost use lib.ListN.{length};
 ghost use Rattle.law.specs.Types.{a0, a2};
 ghost use Rattle.lock.specs.Methods.{figuresOf};
+ghost use Rattle.rules.specs.Disks.{figuresIn};
+ghost use Rattle.part.specs.Layout.{decode};
 ghost use Rattle.sound.specs.Tests.{figureFits, figuresFit};
 use law::Attr;
 use num::signed::within;
+use num::word::word_at;
+use part::read::code_at;
+use part::read::promised_at;
+use part::read::used_at;
 
 const MOST_VALUE: u32 = 1000000000;
 
@@ -15,8 +22,22 @@ const MOST_STATE: u32 = 255;
 
 const MOST_NEXT: u32 = 1000000;
 
+// The figures of a part.
+pub fn figures_hold(s: &[u8]) -> bool
+    requires { ⌜ length (now s) ≡ 768 ⌝ }
+    ensures { λ r. ⌜ r ≡ figuresFit (figuresIn (decode (now (s .entry)))) (decode (now (s .entry)) .clock) (decode (now (s .entry)) .next) ⌝ }
+{
+    figures_fit(
+        used_at(s),
+        promised_at(s),
+        code_at(s),
+        word_at(s, 0),
+        word_at(s, 4),
+    )
+}
+
 // The next ticket and the three figures.
-pub fn figures_fit(used: Attr, promised: Attr, state: Attr, clock: u32, next: u32) -> bool
+fn figures_fit(used: Attr, promised: Attr, state: Attr, clock: u32, next: u32) -> bool
     ensures { λ r. ⌜ r ≡ figuresFit (figuresOf used promised state) clock next ⌝ }
 {
     if next < 1 {

@@ -1,0 +1,150 @@
+-- The claims before i have passed, and those from i on decide.
+use borrow.Author.Needs.{needs}
+use Prim.Native.Nat.{ℕ, _-_}
+use mathlib.Core.Bool.{Bool, true}
+use mathlib.Core.List.{List}
+use mathlib.Core.Path.{_≡_, refl, sym, _∙_}
+use native.Mathlib.Omega.{arith}
+use borrow.Author.Tests.{not-true, not-false}
+use lib.ListN.{length, drop}
+use Rattle.law.specs.declared.Claim.{Claim}
+use Rattle.law.specs.Base.{everyOf}
+use Rattle.lock.specs.Methods.{figuresOf}
+use Rattle.rules.specs.Disks.{figuresIn}
+use Rattle.part.specs.Layout.{decode, decodes}
+use Rattle.claims.specs.RowLaws.{every-on, every-not, every-end}
+use Rattle.sound.specs.Tests.{waitingFits}
+use Rattle.sound.proofs.WalkLaws.{there}
+use Rattle.sound.proofs.DiskLaws.{waitings, clock-read, next-read, waitings-read, good}
+use Rattle.sound.proofs.waiting.waitings_fit.Statement.{statement}
+use Rattle.sound.proofs.waiting.waitings_fit.Tie as tie
+
+abbrev fit : List ℕ → Claim → Bool
+fit s = waitingFits (figuresIn (decode s)) (decode s .clock) (decode s .next)
+
+abbrev Inv : tie.InvT-loop
+Inv s clock next m used promised state i₀ i =
+    everyOf (fit s) (drop i (waitings (decode s))) ≡ everyOf (fit s) (waitings (decode s))
+
+abbrev μ : tie.MeasureT-loop
+μ s clock next m used promised state i₀ i = m - i
+
+-- The place where the figures are read, and the part there.
+abbrev Read : Type 0
+Read = tie.After-code-at Inv μ
+
+abbrev part : Read → List ℕ
+part k = k .before .before .before .before .before .before .before .args .s .now
+
+long : (k : Read) → length (part k) ≡ 768
+long k = k .before .before .before .before .before .before .before .pre .0
+
+sane : (k : Read) → decodes (part k) ≡ true
+sane k = k .before .before .before .before .before .before .before .pre .1
+
+count : (k : Read) → k .before .before .before .word-at3 .result ≡ decode (part k) .waitings
+count k = k .before .before .before .word-at3 .ensures ∙ waitings-read (part k)
+
+-- The test of a claim with the figures read is that with the disk's.
+fits : (k : Read) (x : Claim) →
+    waitingFits
+    (figuresOf (k .before .before .used-at .result) (k .before .promised-at .result) (k .code-at .result))
+    (k .before .before .before .before .before .word-at .result) (k .before .before .before .before .word-at2 .result) x
+    ≡ fit (part k) x
+fits k x i =
+    waitingFits
+    (figuresOf (k .before .before .used-at .ensures i) (k .before .promised-at .ensures i) (k .code-at .ensures i))
+    ((k .before .before .before .before .before .word-at .ensures ∙ clock-read (part k)) i)
+    ((k .before .before .before .before .word-at2 .ensures ∙ next-read (part k)) i) x
+
+word-at-requires : tie.Need-word-at-requires Inv μ
+word-at-requires c κs = search needs
+
+word-at-requires-2 : tie.Need-word-at-requires-2 Inv μ
+word-at-requires-2 c κs = search needs
+
+word-at-requires-3 : tie.Need-word-at-requires-3 Inv μ
+word-at-requires-3 c κs = search needs
+
+cast-m : tie.Need-cast-m Inv μ
+cast-m c = search needs
+
+used-at-requires : tie.Need-used-at-requires Inv μ
+used-at-requires c κs = search needs
+
+promised-at-requires : tie.Need-promised-at-requires Inv μ
+promised-at-requires c κs = search needs
+
+code-at-requires : tie.Need-code-at-requires Inv μ
+code-at-requires c κs = search needs
+
+loop-holds : tie.Need-loop-holds Inv μ
+loop-holds c = refl
+
+waiting-at-requires : tie.Need-waiting-at-requires Inv μ
+waiting-at-requires c κs =
+    let k = c .before .before in
+    (long k, omega (arith, c .loop-test .taken, count k, good (part k) (long k) (sane k) .waiting .few))
+
+waiting-fits-requires : tie.Need-waiting-fits-requires Inv μ
+waiting-fits-requires c κs = tt
+
+returns : tie.Need-returns Inv μ
+returns c =
+    let t = c .before .before .before in
+    let l = t .before in
+    let k = l .before in
+    let s = part k in
+    every-not (good s (long k) (sane k) .waiting) (fit s) (l .loop .i) (omega (arith, t .loop-test .taken, count k))
+    (there (fit s) (c .before .before .waiting-at .ensures)
+    (sym (c .before .waiting-fits .ensures ∙ fits k _) ∙ not-true _ (c .if1 .taken)))
+    ∙ l .loop .inv
+
+add-i : tie.Need-add-i Inv μ
+add-i c =
+    let t = c .before .before .before in
+    let k = t .before .before in
+    record { fits = omega (arith, t .loop-test .taken, count k, good (part k) (long k) (sane k) .waiting .few) }
+
+loop-less : tie.Need-loop-less Inv μ
+loop-less c = omega (arith, c .before .before .before .loop-test .taken)
+
+loop-again : tie.Need-loop-again Inv μ
+loop-again c =
+    let t = c .before .before .before in
+    let l = t .before in
+    let k = l .before in
+    let s = part k in
+    every-on (good s (long k) (sane k) .waiting) (fit s) (l .loop .i) (omega (arith, t .loop-test .taken, count k))
+    (there (fit s) (c .before .before .waiting-at .ensures)
+    (sym (c .before .waiting-fits .ensures ∙ fits k _) ∙ not-false _ (c .if1 .left)))
+    ∙ l .loop .inv
+
+returns-2 : tie.Need-returns-2 Inv μ
+returns-2 c =
+    let l = c .before in
+    let k = l .before in
+    let s = part k in
+    every-end (good s (long k) (sane k) .waiting) (fit s) (l .loop .i) (omega (arith, c .loop-test .left, count k)) ∙ l .loop .inv
+
+pub waitings-fit-spec : {M : Type 1} → statement M
+waitings-fit-spec =
+    tie.close
+    (tie.spec
+    Inv
+    μ
+    word-at-requires
+    word-at-requires-2
+    word-at-requires-3
+    cast-m
+    used-at-requires
+    promised-at-requires
+    code-at-requires
+    loop-holds
+    waiting-at-requires
+    waiting-fits-requires
+    returns
+    add-i
+    loop-less
+    loop-again
+    returns-2)

@@ -1,0 +1,60 @@
+// The waiting claims of a part: each by itself, and their order.
+
+ghost use mathlib.Core.Bool.{true};
+ghost use mathlib.Core.Path.{_≡_};
+ghost use lib.ListN.{length};
+ghost use Rattle.law.specs.Base.{everyPair};
+ghost use Rattle.law.specs.Calls.{before as lawBefore};
+ghost use Rattle.rules.specs.Disks.{diskOf};
+ghost use Rattle.part.specs.Layout.{decode, decodes};
+ghost use Rattle.sound.specs.Tests.{waitingsFit};
+use crate::alone::waiting_fits;
+use claims::before;
+use num::word::word_at;
+use part::read::code_at;
+use part::read::promised_at;
+use part::read::used_at;
+use part::read::waiting_at;
+
+// Each waiting claim fits by itself.
+pub fn waitings_fit(s: &[u8]) -> bool
+    requires { ⌜ length (now s) ≡ 768 ⌝ }
+    requires { ⌜ decodes (now s) ≡ true ⌝ }
+    ensures { λ r. ⌜ r ≡ waitingsFit (diskOf (decode (now (s .entry)))) ⌝ }
+{
+    let clock = word_at(s, 0);
+    let next = word_at(s, 4);
+    let m = word_at(s, 12) as usize;
+    let used = used_at(s);
+    let promised = promised_at(s);
+    let state = code_at(s);
+    let mut i: usize = 0;
+    while i < m {
+        let x = waiting_at(s, i);
+        if !waiting_fits(x, clock, next, used, promised, state) {
+            return false;
+        }
+        i += 1;
+    }
+    true
+}
+
+// The waiting claims stand in the pass's order. Each is compared with the next one alone: what is before the next is
+// before all behind it.
+pub fn in_order(s: &[u8]) -> bool
+    requires { ⌜ length (now s) ≡ 768 ⌝ }
+    requires { ⌜ decodes (now s) ≡ true ⌝ }
+    ensures { λ r. ⌜ r ≡ everyPair lawBefore (diskOf (decode (now (s .entry))) .waiting) ⌝ }
+{
+    let m = word_at(s, 12) as usize;
+    let mut i: usize = 1;
+    while i < m {
+        let x = waiting_at(s, i - 1);
+        let y = waiting_at(s, i);
+        if !before(x, y) {
+            return false;
+        }
+        i += 1;
+    }
+    true
+}
