@@ -1,13 +1,13 @@
 -- The bits of a number, with their laws.
 use Prim.Native.Nat.{ℕ, zero, suc, _+_, _-_, _/_, _%_, _^_, _<_}
-use mathlib.Core.Bool.{Bool, true, false, cond}
+use mathlib.Core.Bool.{Bool, true, false, cond, _&&_}
 use mathlib.Core.Logic.{_≢_, ⊎-elim}
-use mathlib.Core.Path.{_≡_, refl, ap}
+use mathlib.Core.Path.{_≡_, refl, sym, ap, _∙_}
 use native.Mathlib.Nat.{div-self, div-one, div-eq-of-lt, eq-zero-or-pos, mul-mod-left, pow-suc, zero-div}
 use native.Mathlib.Numerals.{add-one}
 use native.Mathlib.Omega.{arith}
 use lib.Arith.{lt-one}
-use lib.Bits.{bitOr, or-shr, or-mod, or-zero-r}
+use lib.Bits.{bitAnd, bitOr, and-shr, and-mod, and-le-l, and-le-r, or-add-and, or-shr, or-mod, or-zero-r}
 use lib.Count.{ones, ones-step}
 use lib.Dec.{eqb}
 use lib.Pow.{pow-pos, pow-lt, pow-add, shl-shr, shr-shr, shr-lt}
@@ -50,6 +50,30 @@ power-bit a b n =
 pub bit-set-other : (m a b : ℕ) → a ≢ b → hasBit (bitOr m (2 ^ a)) b ≡ hasBit m b
 unfolding hasBit
 bit-set-other m a b n = rw (or-shr m (2 ^ a) b, or-mod (m / 2 ^ b) (2 ^ a / 2 ^ b) 1, power-bit a b n, or-zero-r)
+
+-- What no bit of either is in is 0; and what is joined to 0 are two zeros.
+pub or-none : (a b : ℕ) → bitOr a b ≡ 0 → (a ≡ 0) × (b ≡ 0)
+or-none a b e =
+    (omega (arith, e, or-add-and a b, and-le-r a b), omega (arith, e, or-add-and a b, and-le-l a b))
+
+-- Both bits, met, are the bit of both.
+and-one : (r s : ℕ) → r < 2 → s < 2 → eqb (bitAnd r s) 1 ≡ (eqb r 1 && eqb s 1)
+and-one zero s h k = refl
+and-one (suc zero) zero h k = refl
+and-one (suc zero) (suc zero) h k = refl
+and-one (suc zero) (suc (suc s)) h k = absurd (omega arith)
+and-one (suc (suc r)) s h k = absurd (omega arith)
+
+pub bit-both : (m n a : ℕ) → hasBit (bitAnd m n) a ≡ (hasBit m a && hasBit n a)
+unfolding hasBit
+bit-both m n a =
+    rw (and-shr m n a, and-mod (m / 2 ^ a) (n / 2 ^ a) 1) (and-one (m / 2 ^ a % 2) (n / 2 ^ a % 2) (omega arith) (omega arith))
+
+-- Of two masks that share no bit, one has none that the other has.
+pub apart-bits : (m n a : ℕ) → bitAnd m n ≡ 0 → hasBit m a ≡ true → hasBit n a ≡ false
+apart-bits m n a e h =
+    let none : (hasBit m a && hasBit n a) ≡ false = sym (bit-both m n a) ∙ ap (λ (x : ℕ). hasBit x a) e ∙ bit-zero a in
+    rw h at none
 
 -- The lowest bit, as a count.
 lowest : (r : ℕ) → r < 2 → cond (eqb r 1) 1 0 ≡ r

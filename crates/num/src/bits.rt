@@ -1,7 +1,10 @@
 // The bits of a mask.
 
+ghost use mathlib.Core.Bool.{not};
 ghost use mathlib.Core.Path.{_≡_};
-ghost use Prim.Native.Nat.{_<_};
+ghost use Prim.Native.Nat.{_%_, _^_, _<_};
+ghost use lib.Bits.{bitAnd};
+ghost use lib.Dec.{eqb};
 ghost use Rattle.num.specs.Bits.{hasBit};
 
 // Whether bit a of a mask is set.
@@ -10,4 +13,18 @@ pub fn bit(mask: u8, a: u8) -> bool
     ensures { λ r. ⌜ r ≡ hasBit mask a ⌝ }
 {
     (mask >> a) & 1 == 1
+}
+
+// The mask of one bit: that of a number's last six.
+pub fn bit_of(a: u32) -> u64
+    ensures { λ r. ⌜ r ≡ 2 ^ (a % 64) ⌝ }
+{
+    1 << (a % 64)
+}
+
+// Whether two masks share a bit.
+pub fn share(a: u64, b: u64) -> bool
+    ensures { λ r. ⌜ r ≡ not (eqb (bitAnd a b) 0) ⌝ }
+{
+    a & b != 0
 }
