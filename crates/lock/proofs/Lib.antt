@@ -1,3 +1,4 @@
 pub mod MethodLaws
 pub mod RuleLaws
 pub mod EntryLaws
+pub mod MaskLaws

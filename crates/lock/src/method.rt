@@ -6,11 +6,13 @@ ghost use Prim.Native.Nat.{_<_};
 ghost use Rattle.law.specs.Entries.{kindAt};
 ghost use Rattle.law.specs.DiskType.{diskTable};
 ghost use Rattle.lock.specs.Methods.{readMask, writeMask, isReading, isAdd};
+ghost use Rattle.lock.specs.Masks.{methodBit, otherMask, neverMask};
 use law::Entry;
 use law::Entry::A;
 use law::Entry::D;
 use law::Entry::G;
 use law::Entry::N;
+use num::bits::bit_of;
 
 // 0 ReportUsed, 1 AddPromised, 2 SetPromised, 3 SetState, 4 ReadUsed, 5 ReadLoad, 6 ReadState.
 pub const METHODS: u32 = 7;
@@ -86,4 +88,40 @@ pub fn is_add(m: u32) -> bool
     ensures { λ r. ⌜ r ≡ isAdd (kindAt diskTable m) ⌝ }
 {
     m == ADD_PROMISED
+}
+
+// The bit of a method in a mask of methods; none of a method that there is not.
+pub fn own_bit(m: u32) -> u64
+    ensures { λ r. ⌜ r ≡ methodBit m ⌝ }
+{
+    if m < METHODS { bit_of(m) } else { 0 }
+}
+
+// The methods whose entry with m is not A: where none of them is active, no active claim has a say.
+pub fn others(m: u32) -> u64
+    ensures { λ r. ⌜ r ≡ otherMask m ⌝ }
+{
+    match m {
+        REPORT_USED => 49,
+        ADD_PROMISED => 36,
+        SET_PROMISED => 38,
+        SET_STATE => 72,
+        READ_USED => 1,
+        READ_LOAD => 7,
+        READ_STATE => 8,
+        _ => 0,
+    }
+}
+
+// Those whose entry with m is N: where one of them is active, m waits.
+pub fn never(m: u32) -> u64
+    ensures { λ r. ⌜ r ≡ neverMask m ⌝ }
+{
+    match m {
+        ADD_PROMISED => 4,
+        SET_PROMISED => 2,
+        SET_STATE => 72,
+        READ_STATE => 8,
+        _ => 0,
+    }
 }

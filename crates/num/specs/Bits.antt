@@ -1,12 +1,13 @@
 -- The bits of a number, with their laws.
 use Prim.Native.Nat.{ℕ, zero, suc, _+_, _-_, _/_, _%_, _^_, _<_}
-use mathlib.Core.Bool.{Bool, true, false, cond, _&&_}
+use mathlib.Core.Bool.{Bool, true, false, cond, _&&_, _||_}
 use mathlib.Core.Logic.{_≢_, ⊎-elim}
 use mathlib.Core.Path.{_≡_, refl, sym, ap, _∙_}
 use native.Mathlib.Nat.{div-self, div-one, div-eq-of-lt, eq-zero-or-pos, mul-mod-left, pow-suc, zero-div}
 use native.Mathlib.Numerals.{add-one}
 use native.Mathlib.Omega.{arith}
-use lib.Arith.{lt-one}
+use borrow.Author.Tests.{eqb-false}
+use lib.Arith.{lt-one, bin-ind}
 use lib.Bits.{bitAnd, bitOr, and-shr, and-mod, and-le-l, and-le-r, or-add-and, or-shr, or-mod, or-zero-r}
 use lib.Count.{ones, ones-step}
 use lib.Dec.{eqb}
@@ -51,18 +52,33 @@ pub bit-set-other : (m a b : ℕ) → a ≢ b → hasBit (bitOr m (2 ^ a)) b ≡
 unfolding hasBit
 bit-set-other m a b n = rw (or-shr m (2 ^ a) b, or-mod (m / 2 ^ b) (2 ^ a / 2 ^ b) 1, power-bit a b n, or-zero-r)
 
--- What no bit of either is in is 0; and what is joined to 0 are two zeros.
+-- Only two zeros join to 0.
 pub or-none : (a b : ℕ) → bitOr a b ≡ 0 → (a ≡ 0) × (b ≡ 0)
 or-none a b e =
     (omega (arith, e, or-add-and a b, and-le-r a b), omega (arith, e, or-add-and a b, and-le-l a b))
 
--- Both bits, met, are the bit of both.
+-- A bit of both is one of each.
 and-one : (r s : ℕ) → r < 2 → s < 2 → eqb (bitAnd r s) 1 ≡ (eqb r 1 && eqb s 1)
 and-one zero s h k = refl
 and-one (suc zero) zero h k = refl
 and-one (suc zero) (suc zero) h k = refl
 and-one (suc zero) (suc (suc s)) h k = absurd (omega arith)
 and-one (suc (suc r)) s h k = absurd (omega arith)
+
+-- Either bit of two.
+or-two : (r s : ℕ) → r < 2 → s < 2 → eqb (bitOr r s) 1 ≡ (eqb r 1 || eqb s 1)
+or-two zero zero h k = refl
+or-two zero (suc zero) h k = refl
+or-two zero (suc (suc s)) h k = absurd (omega arith)
+or-two (suc zero) zero h k = refl
+or-two (suc zero) (suc zero) h k = refl
+or-two (suc zero) (suc (suc s)) h k = absurd (omega arith)
+or-two (suc (suc r)) s h k = absurd (omega arith)
+
+pub bit-either : (m n a : ℕ) → hasBit (bitOr m n) a ≡ (hasBit m a || hasBit n a)
+unfolding hasBit
+bit-either m n a =
+    rw (or-shr m n a, or-mod (m / 2 ^ a) (n / 2 ^ a) 1) (or-two (m / 2 ^ a % 2) (n / 2 ^ a % 2) (omega arith) (omega arith))
 
 pub bit-both : (m n a : ℕ) → hasBit (bitAnd m n) a ≡ (hasBit m a && hasBit n a)
 unfolding hasBit
@@ -75,16 +91,38 @@ apart-bits m n a e h =
     let none : (hasBit m a && hasBit n a) ≡ false = sym (bit-both m n a) ∙ ap (λ (x : ℕ). hasBit x a) e ∙ bit-zero a in
     rw h at none
 
+-- Bit a + 1 of a number is bit a of its half.
+bit-half : (m a : ℕ) → hasBit m (1 + a) ≡ hasBit (m / 2) a
+unfolding hasBit
+bit-half m a = rw (← shr-shr m 1 a)
+
+-- A number without a bit is 0.
+pub bits-none : (n : ℕ) → ((a : ℕ) → hasBit n a ≡ false) → n ≡ 0
+unfolding hasBit
+bits-none =
+    bin-ind (λ (n : ℕ). ((a : ℕ) → hasBit n a ≡ false) → n ≡ 0) (λ h. refl)
+    (λ n ih h.
+    let half = ih (λ a. sym (bit-half n a) ∙ h (1 + a)) in
+    let odd : n / 1 % 2 ≡ 1 → ⊥ = eqb-false (n / 1 % 2) 1 (h 0) in
+    let even : n % 2 ≡ 1 → ⊥ = λ e. odd (ap (λ (x : ℕ). x % 2) (div-one n) ∙ e) in
+    ⊎-elim (λ (e : n % 2 ≡ 0). omega (arith, half, e)) (λ (l : 0 < n % 2). absurd (even (omega arith))) (eq-zero-or-pos (n % 2)))
+
+-- A mask joined with another shares no bit with a third where neither does.
+pub or-apart : (m n k : ℕ) → bitAnd m k ≡ 0 → bitAnd n k ≡ 0 → bitAnd (bitOr m n) k ≡ 0
+or-apart m n k e f = bits-none (bitAnd (bitOr m n) k) (λ a. bit-both (bitOr m n) k a ∙ ap (λ (b : Bool). b && hasBit k a) (bit-either m n a) ∙ neither (hasBit m a) (hasBit n a) (hasBit k a) (gone m e a) (gone n f a))
+  where
+    gone : (x : ℕ) → bitAnd x k ≡ 0 → (a : ℕ) → (hasBit x a && hasBit k a) ≡ false
+    gone x e a = sym (bit-both x k a) ∙ ap (λ (y : ℕ). hasBit y a) e ∙ bit-zero a
+
+    neither : (b c d : Bool) → (b && d) ≡ false → (c && d) ≡ false → ((b || c) && d) ≡ false
+    neither true c d h k = h
+    neither false c d h k = k
+
 -- The lowest bit, as a count.
 lowest : (r : ℕ) → r < 2 → cond (eqb r 1) 1 0 ≡ r
 lowest zero h = refl
 lowest (suc zero) h = refl
 lowest (suc (suc r)) h = absurd (omega arith)
-
--- Bit a + 1 of a number is bit a of its half.
-bit-half : (m a : ℕ) → hasBit m (1 + a) ≡ hasBit (m / 2) a
-unfolding hasBit
-bit-half m a = rw (← shr-shr m 1 a)
 
 first-bit : (m : ℕ) → countTo (hasBit m) 1 ≡ m % 2
 unfolding hasBit countTo
