@@ -4,19 +4,23 @@ use mathlib.Core.Bool.{Bool, true, false, not, _&&_}
 use mathlib.Core.List.{List, [], _∷_}
 use mathlib.Core.Path.{_≡_, refl, ap}
 use borrow.Author.Tests.{lt-ltb, le-ltb}
+use native.Mathlib.Omega.{arith}
 use lib.Dec.{ltb}
 use lib.ListN.{length}
 use Rattle.law.specs.declared.Claim.{Claim}
-use Rattle.law.specs.Base.{allTrue, anyOf}
+use Rattle.law.specs.Base.{allTrue, anyOf, sumOf}
 use Rattle.law.specs.Lists.{never-true}
-use Rattle.law.specs.Types.{a1, Figures}
+use Rattle.law.specs.Types.{mostValue, a1, Figures}
 use Rattle.law.specs.Granting.{addsOn, total, lockStep, bars, granted}
+use Rattle.law.specs.Sound.{Sound}
 use Rattle.law.specs.DiskType.{diskTable}
 use Rattle.lock.specs.Methods.{preOf}
-use Rattle.lock.specs.Pairs.{coreOf, barsBy}
+use Rattle.lock.specs.Pairs.{coreOf, addOf, barsBy}
 use Rattle.lock.proofs.EntryLaws.{last-test}
 use Rattle.lock.proofs.RuleLaws.{pre-is}
-use Rattle.judge.specs.Decisions.{barsAt, barsOf, DecidedIs}
+use Rattle.rules.specs.declared.disk.Disk.{Disk}
+use Rattle.rules.specs.Disks.{diskOf}
+use Rattle.judge.specs.Decisions.{barsAt, barsOf, activesIn, DecidedIs}
 use Rattle.judge.proofs.WalkLaws.{any-same}
 
 pub from-not : (b v : Bool) → not b ≡ v → b ≡ not v
@@ -83,3 +87,8 @@ module _ (f : Figures) (now : ℕ) (ws ahead : List Claim) (c : Claim) where
 pub refusal : (f : Figures) (now : ℕ) (ws ahead : List Claim) (c : Claim) → false ≡ granted diskTable (coreOf f now ws) ahead c →
     DecidedIs false 0 (coreOf f now ws) ahead c
 refusal f now ws ahead c h = record { says = h; counts = λ q. never-true (0 ≡ total diskTable (coreOf f now ws) c) q; fails = λ q. refl }
+
+-- The active adds of a sound disk are in range.
+pub adds-most : (d : Disk) → Sound diskTable (diskOf d) → sumOf addOf (activesIn d) ≤ mostValue
+unfolding addOf
+adds-most d h = omega (arith, h .sums a1)

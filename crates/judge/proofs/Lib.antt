@@ -1,3 +1,4 @@
 -- Laws of the decision.
 pub mod WalkLaws
 pub mod DecideLaws
+pub mod ReadLaws

@@ -2,9 +2,10 @@
 use Prim.Native.Nat.{ℕ, _+_, _≤_, _<_}
 use mathlib.Core.Bool.{Bool, true, false, cond, not, _&&_}
 use mathlib.Core.List.{List, [], _∷_}
-use mathlib.Core.Path.{_≡_, refl, ap, _∙_}
+use mathlib.Core.Path.{_≡_, refl, sym, ap, _∙_}
 use native.Mathlib.Numerals.{add-one}
 use native.Mathlib.Omega.{arith}
+use lib.Bits.{bitAnd, bitOr}
 use lib.Dec.{leb}
 use lib.ListN.{length, take, drop, getD, drop-of-length-le}
 use lib.Seq.{length-take-le, drop-cons, getD-take}
@@ -14,12 +15,16 @@ use Rattle.law.specs.declared.Entry.{Entry}
 use Rattle.law.specs.declared.Entry.the-variants.{A, N, D, G}
 use Rattle.law.specs.Base.{allTrue, everyOf, anyOf, sumOf}
 use Rattle.law.specs.Types.{Kind, sets, adds, reads, Figures}
-use Rattle.law.specs.Entries.{kindAt, kindOf, entryBy, entry, isNever}
+use Rattle.law.specs.Entries.{kindAt, kindOf, entryBy, entry, isAlways, isNever}
+use Rattle.law.specs.Lists.{All, all-say, never-true, sum-zero}
 use Rattle.law.specs.Granting.{limitBy, startBy, gapBy, costBy, raisesBy, cost, stays, total, lockStep}
 use Rattle.law.specs.DiskType.{diskTable}
-use Rattle.claims.specs.Rows.{noClaim}
+use Rattle.claims.specs.Rows.{Row, noClaim}
+use Rattle.claims.specs.RowLaws.{left-on, left-end}
 use Rattle.lock.specs.Methods.{isReading}
-use Rattle.lock.specs.Pairs.{coreOf, letsBy, costOn, barsBy}
+use Rattle.lock.specs.Masks.{methodBit, methodsFrom, methodsOf, otherMask}
+use Rattle.lock.specs.Pairs.{coreOf, letsBy, costOn, costBetween, raiseOf, barsBy}
+use Rattle.lock.proofs.MaskLaws.{all-always}
 use Rattle.judge.specs.Decisions.{letsOf, costOf, barsAt}
 
 -- ---- tests and sums of two functions that agree
@@ -149,3 +154,49 @@ pub bars-at : (f : Figures) (now sum priority m : ℕ) (w : Claim) {e : Entry} {
     b ≡ barsBy f now sum priority e w → b ≡ barsAt f now sum priority m w
 unfolding barsAt
 bars-at f now sum priority m w h b = rw h at b
+
+-- ---- the methods of the active claims
+
+module _ {a : List Claim} {n : ℕ} (r : Row a n) (mask i : ℕ) where
+  pub methods-turn : i < n →
+      methodsFrom (bitOr mask (methodBit (getD a i noClaim .method))) (drop (i + 1) (take n a)) ≡ methodsFrom mask (drop i (take n a))
+  unfolding methodsFrom
+  methods-turn h = ap (methodsFrom mask) (sym (left-on r i h))
+
+  pub methods-end : n ≤ i → mask ≡ methodsFrom mask (drop i (take n a))
+  unfolding methodsFrom
+  methods-end h = ap (methodsFrom mask) (sym (left-end r i h))
+
+-- Claims whose entry with c is A let it pass, and add nothing.
+module _ (f : Figures) (c : Claim) where
+  lets-always : (w : Claim) → isAlways (entry diskTable w c) ≡ true → letsOf f c w ≡ true
+  unfolding letsOf
+  lets-always w h = by-entry (entry diskTable w c) h
+    where
+      by-entry : (e : Entry) → isAlways e ≡ true →
+          letsBy e (isReading (kindOf diskTable c)) (w .amount) (w .error) (raiseOf f c) ≡ true
+      by-entry A h = refl
+      by-entry N h = h
+      by-entry D h = refl
+      by-entry G h = never-true (letsBy G (isReading (kindOf diskTable c)) (w .amount) (w .error) (raiseOf f c) ≡ true) h
+
+  cost-always : (w : Claim) → isAlways (entry diskTable w c) ≡ true → costOf f c w ≡ 0
+  unfolding costOf
+  cost-always w h = by-entry (entry diskTable w c) h
+    where
+      by-entry : (e : Entry) → isAlways e ≡ true → costBetween f e (isReading (kindOf diskTable c)) c w ≡ 0
+      by-entry A h = refl
+      by-entry N h = refl
+      by-entry D h = never-true (costBetween f D (isReading (kindOf diskTable c)) c w ≡ 0) h
+      by-entry G h = never-true (costBetween f G (isReading (kindOf diskTable c)) c w ≡ 0) h
+
+  module _ (ws : List Claim) (e : bitAnd (methodsOf ws) (otherMask (c .method)) ≡ 0) where
+    pub all-let : true ≡ everyOf (letsOf f c) ws
+    all-let = every-let ws (all-always c ws e)
+      where
+        every-let : (vs : List Claim) → All (λ w. isAlways (entry diskTable w c) ≡ true) vs → true ≡ everyOf (letsOf f c) vs
+        every-let [] h = refl
+        every-let (v ∷ vs) h = rw (lets-always v (h .0)) (every-let vs (h .1))
+
+    pub none-cost : 0 ≡ sumOf (costOf f c) ws
+    none-cost = sym (sum-zero (costOf f c) ws (all-say (λ w. isAlways (entry diskTable w c) ≡ true) (λ w. costOf f c w ≡ 0) cost-always ws (all-always c ws e)))

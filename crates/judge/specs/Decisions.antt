@@ -3,6 +3,7 @@ use Prim.Native.Nat.{ℕ}
 use mathlib.Core.Bool.{Bool, true, false}
 use mathlib.Core.List.{List}
 use mathlib.Core.Path.{_≡_}
+use lib.ListN.{take}
 use Rattle.law.specs.declared.Claim.{Claim}
 use Rattle.law.specs.Types.{Figures, Core}
 use Rattle.law.specs.Entries.{kindAt, entryBy}
@@ -10,6 +11,7 @@ use Rattle.law.specs.Granting.{total, granted}
 use Rattle.law.specs.DiskType.{diskTable}
 use Rattle.lock.specs.Methods.{isReading}
 use Rattle.lock.specs.Pairs.{letsBy, costBetween, raiseOf, barsBy}
+use Rattle.rules.specs.declared.disk.Disk.{Disk}
 
 -- The active claim w lets c pass.
 unfoldable pub letsOf : Figures → Claim → Claim → Bool
@@ -30,6 +32,10 @@ barsAt f now sum priority m w =
 -- It bars c.
 abbrev pub barsOf : Figures → ℕ → ℕ → Claim → Claim → Bool
 barsOf f now sum c = barsAt f now sum (c .priority) (c .method)
+
+-- The active claims of a disk.
+abbrev pub activesIn : Disk → List Claim
+activesIn d = take (d .actives) (d .active)
 
 -- A decision on a claim behind those ahead, and its total where it is granted, else 0.
 pub record DecidedIs (ok : Bool) (sum : ℕ) (s : Core) (ahead : List Claim) (c : Claim) : Type 0 where

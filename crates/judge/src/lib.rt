@@ -3,12 +3,16 @@
 ghost use mathlib.Core.Bool.{true};
 ghost use mathlib.Core.Path.{_≡_};
 ghost use lib.ListN.{length};
+ghost use Rattle.law.specs.Base.{sumOf};
 ghost use Rattle.law.specs.Calls.{claim as lawClaim};
 ghost use Rattle.law.specs.Sound.{Sound};
 ghost use Rattle.law.specs.DiskType.{diskTable};
+ghost use Rattle.lock.specs.Pairs.{addOf};
+ghost use Rattle.lock.specs.Masks.{methodsOf};
 ghost use Rattle.rules.specs.Disks.{diskOf};
 ghost use Rattle.rules.specs.Answers.{askedOf, shownBy};
 ghost use Rattle.part.specs.Layout.{decodes, decode};
+ghost use Rattle.judge.specs.Decisions.{activesIn};
 use crate::step::decide;
 use lock::figures::told;
 use num::signed::narrow;
@@ -27,11 +31,13 @@ pub mod step;
 
 const PLACES: u32 = 8;
 
-// What a claim on the disk of a part comes to; nothing is changed.
-pub fn judged(s: &[u8], q: Asked) -> Judgement
+// What a claim on the disk of a part comes to, with what its active claims come to together; nothing is changed.
+pub fn judged(s: &[u8], q: Asked, adds: u64, methods: u64) -> Judgement
     requires { ⌜ length (now s) ≡ 768 ⌝ }
     requires { ⌜ decodes (now s) ≡ true ⌝ }
     requires { ⌜ Sound diskTable (diskOf (decode (now s))) ⌝ }
+    requires { ⌜ adds ≡ sumOf addOf (activesIn (decode (now s))) ⌝ }
+    requires { ⌜ methods ≡ methodsOf (activesIn (decode (now s))) ⌝ }
     ensures { λ r. ⌜ r ≡ shownBy (lawClaim diskTable (diskOf (decode (now (s .entry)))) (askedOf q)) ⌝ }
 {
     let second = q.now;
@@ -45,7 +51,7 @@ pub fn judged(s: &[u8], q: Asked) -> Judgement
         return unjudged(number);
     }
     let waitings = word_at(s, 12);
-    let verdict = decide(s, waitings as usize, c, second);
+    let verdict = decide(s, waitings as usize, c, second, adds, methods);
     if verdict.ok {
         let present = narrow(told(c.method, used, promised, state));
         return Judgement {

@@ -1,18 +1,24 @@
-// The decision on a claim: three walks over the claims of the disk, which are read where they stand in its part.
+// The decision on a claim: preconditions, barring, the lock step and the place. The claims of the disk are read where they stand
+// in its part; what the active ones come to together is handed in.
 
+ghost use mathlib.Core.Bool.{true};
 ghost use mathlib.Core.Path.{_≡_};
 ghost use Prim.Native.Nat.{_≤_};
 ghost use lib.ListN.{length, take};
-ghost use Rattle.lock.specs.Pairs.{coreOf};
+ghost use Rattle.law.specs.Base.{anyOf, everyOf, sumOf};
+ghost use Rattle.lock.specs.Pairs.{coreOf, addOf};
+ghost use Rattle.lock.specs.Masks.{methodsOf};
 ghost use Rattle.rules.specs.Disks.{figuresIn, Good};
 ghost use Rattle.part.specs.Layout.{decode};
-ghost use Rattle.judge.specs.Decisions.{DecidedIs};
+ghost use Rattle.judge.specs.Decisions.{letsOf, costOf, barsOf, activesIn, DecidedIs};
 use law::Claim;
 use lock::figures::limit;
 use lock::figures::preconditions;
 use lock::figures::start;
 use lock::method::TABLE;
 use lock::method::is_reading;
+use lock::method::others;
+use lock::method::own_bit;
 use lock::step::add_part;
 use lock::step::bars;
 use lock::step::cost;
@@ -20,6 +26,7 @@ use lock::step::entry;
 use lock::step::index_of;
 use lock::step::lets;
 use lock::step::raise_of;
+use num::bits::share;
 use num::word::word_at;
 use part::read::active_at;
 use part::read::code_at;
@@ -27,41 +34,46 @@ use part::read::promised_at;
 use part::read::used_at;
 use part::read::waiting_at;
 
-// What the decision comes to: whether the claim is granted, and then the total; 0 where it is not.
-pub struct Decided {
-    pub ok: bool,
-    pub total: u64,
+// What the active claims come to: the sum of |d| over the adds, and the methods, a bit for each.
+pub struct Together {
+    pub adds: u64,
+    pub methods: u64,
 }
 
-// The decision on c at a second behind the first waiting ones. The active adds are summed up; then preconditions, barring by
-// one ahead, the lock step (the starting amount and what each active claim adds, no entry N, each active reading within its
-// own limit) and the place.
-pub fn decide(s: &[u8], ahead: usize, c: Claim, second: u32) -> Decided
+pub fn taken_together(s: &[u8]) -> Together
+    requires { ⌜ length (now s) ≡ 768 ⌝ }
+    requires { ⌜ Good (decode (now s)) ⌝ }
+    ensures { λ r. ⌜ r .adds ≡ sumOf addOf (activesIn (decode (now (s .entry)))) ⌝ }
+    ensures { λ r. ⌜ r .methods ≡ methodsOf (activesIn (decode (now (s .entry)))) ⌝ }
+    ensures { λ r. ⌜ r .adds ≤ 17179869184 ⌝ }
+{
+    let n = word_at(s, 8) as usize;
+    let mut adds: u64 = 0;
+    let mut methods: u64 = 0;
+    let mut i: usize = 0;
+    while i < n {
+        let x = active_at(s, i);
+        adds = adds + add_part(x);
+        methods = methods | own_bit(x.method);
+        i += 1;
+    }
+    Together { adds, methods }
+}
+
+// Whether one of the first waiting claims bars c.
+fn barred(s: &[u8], ahead: usize, c: Claim, second: u32, adds: u64) -> bool
     requires { ⌜ length (now s) ≡ 768 ⌝ }
     requires { ⌜ Good (decode (now s)) ⌝ }
     requires { ⌜ ahead ≤ 8 ⌝ }
-    ensures { λ r. ⌜ DecidedIs (r .ok) (r .total) (coreOf (figuresIn (decode (now (s .entry)))) second (take (decode (now (s .entry)) .actives) (decode (now (s .entry)) .active))) (take ahead (decode (now (s .entry)) .waiting)) c ⌝ }
+    requires { ⌜ adds ≤ 17179869184 ⌝ }
+    ensures { λ r. ⌜ r ≡ anyOf (barsOf (figuresIn (decode (now (s .entry)))) second adds c) (take ahead (decode (now (s .entry)) .waiting)) ⌝ }
 {
     let table = TABLE;
-    let n = word_at(s, 8) as usize;
     let used = used_at(s);
     let promised = promised_at(s);
     let state = code_at(s);
     let m = c.method;
     let col = index_of(m);
-    let mut adds: u64 = 0;
-    let mut h: usize = 0;
-    while h < n {
-        let x = active_at(s, h);
-        adds = adds + add_part(x);
-        h += 1;
-    }
-    if !preconditions(c, second, adds, used, promised, state) {
-        return Decided {
-            ok: false,
-            total: 0,
-        };
-    }
     let mut j: usize = 0;
     while j < ahead {
         let w = waiting_at(s, j);
@@ -69,17 +81,41 @@ pub fn decide(s: &[u8], ahead: usize, c: Claim, second: u32) -> Decided
         let found = table[row][col];
         let e = entry(w.method, m, found);
         if bars(w, e, c.priority, second, adds, used, promised, state) {
-            return Decided {
-                ok: false,
-                total: 0,
-            };
+            return true;
         }
         j += 1;
     }
+    false
+}
+
+// The lock step over the active claims: whether each lets c pass, and what they add to its total.
+pub struct Locked {
+    pub ok: bool,
+    pub sum: u64,
+}
+
+// The table is looked up for c with each active claim, where their methods do not say that every entry is A.
+fn lock_step(s: &[u8], c: Claim, methods: u64) -> Locked
+    requires { ⌜ length (now s) ≡ 768 ⌝ }
+    requires { ⌜ Good (decode (now s)) ⌝ }
+    requires { ⌜ methods ≡ methodsOf (activesIn (decode (now s))) ⌝ }
+    ensures { λ r. ⌜ r .ok ≡ everyOf (letsOf (figuresIn (decode (now (s .entry)))) c) (activesIn (decode (now (s .entry)))) ⌝ }
+    ensures { λ r. ⌜ (r .ok ≡ true → r .sum ≡ sumOf (costOf (figuresIn (decode (now (s .entry)))) c) (activesIn (decode (now (s .entry))))) ⌝ }
+    ensures { λ r. ⌜ r .sum ≤ 34359738360 ⌝ }
+{
+    if !share(methods, others(c.method)) {
+        return Locked { ok: true, sum: 0 };
+    }
+    let table = TABLE;
+    let n = word_at(s, 8) as usize;
+    let used = used_at(s);
+    let promised = promised_at(s);
+    let state = code_at(s);
+    let m = c.method;
+    let col = index_of(m);
     let reading = is_reading(m);
     let raise = raise_of(c, used, promised, state);
-    let most = limit(m, c.error, used, promised, state) as u64;
-    let mut total = start(m, c.error, used, promised, state);
+    let mut sum: u64 = 0;
     let mut i: usize = 0;
     while i < n {
         let x = active_at(s, i);
@@ -87,22 +123,55 @@ pub fn decide(s: &[u8], ahead: usize, c: Claim, second: u32) -> Decided
         let found = table[row][col];
         let e = entry(x.method, m, found);
         if lets(e, reading, x.amount, x.error, raise) {
-            total = total + cost(e, reading, c, x, used, promised, state);
+            sum = sum + cost(e, reading, c, x, used, promised, state);
             i += 1;
         } else {
-            return Decided {
-                ok: false,
-                total: 0,
-            };
+            return Locked { ok: false, sum: 0 };
         }
     }
-    if n < 8 {
+    Locked { ok: true, sum }
+}
+
+// What the decision comes to: whether the claim is granted, and then the total; 0 where it is not.
+pub struct Decided {
+    pub ok: bool,
+    pub total: u64,
+}
+
+// The decision on c at a second behind the first waiting ones, in 01's order: preconditions, barring by one ahead, the lock step
+// (the starting amount and what each active claim adds, no entry N, each active reading within its own limit) and the place.
+pub fn decide(s: &[u8], ahead: usize, c: Claim, second: u32, adds: u64, methods: u64) -> Decided
+    requires { ⌜ length (now s) ≡ 768 ⌝ }
+    requires { ⌜ Good (decode (now s)) ⌝ }
+    requires { ⌜ ahead ≤ 8 ⌝ }
+    requires { ⌜ adds ≡ sumOf addOf (activesIn (decode (now s))) ⌝ }
+    requires { ⌜ methods ≡ methodsOf (activesIn (decode (now s))) ⌝ }
+    requires { ⌜ adds ≤ 17179869184 ⌝ }
+    ensures { λ r. ⌜ DecidedIs (r .ok) (r .total) (coreOf (figuresIn (decode (now (s .entry)))) second (activesIn (decode (now (s .entry))))) (take ahead (decode (now (s .entry)) .waiting)) c ⌝ }
+{
+    let used = used_at(s);
+    let promised = promised_at(s);
+    let state = code_at(s);
+    let none = Decided {
+        ok: false,
+        total: 0,
+    };
+    if !preconditions(c, second, adds, used, promised, state) {
+        return none;
+    }
+    if barred(s, ahead, c, second, adds) {
+        return none;
+    }
+    let step = lock_step(s, c, methods);
+    if !step.ok {
+        return none;
+    }
+    let most = limit(c.method, c.error, used, promised, state) as u64;
+    let total = start(c.method, c.error, used, promised, state) + step.sum;
+    if word_at(s, 8) < 8 {
         if total <= most {
             return Decided { ok: true, total };
         }
     }
-    Decided {
-        ok: false,
-        total: 0,
-    }
+    none
 }

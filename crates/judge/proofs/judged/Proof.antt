@@ -29,6 +29,7 @@ use Rattle.rules.specs.Disks.{figuresIn, diskOf, Good}
 use Rattle.rules.proofs.CallLaws.{claim-refused, claim-granted, claim-full, claim-waits, takes-grant}
 use Rattle.part.specs.Layout.{decode}
 use Rattle.part.specs.LayoutLaws.{decode-good}
+use Rattle.judge.proofs.DecideLaws.{adds-most}
 use Rattle.judge.proofs.judged.Statement.{statement}
 use Rattle.judge.proofs.judged.Tie as tie
 
@@ -121,7 +122,7 @@ passed k = sym (number (tests k)) ∙ k .before .before .if1 .left
 takes : (k : tie.After-decide) → k .decide .result .ok ≡ true →
     TakesGrant (disk (tests k)) (request k .now) (wanted (tests k)) (k .decide .result .total)
 takes k g =
-    takes-grant (disk (tests k)) (request k) (k .decide .result .total) (good (start (tests k))) (start (tests k) .pre .1 .1) (passed k)
+    takes-grant (disk (tests k)) (request k) (k .decide .result .total) (good (start (tests k))) (start (tests k) .pre .1 .1 .0) (passed k)
     (sym (decision k) ∙ g) (decided k .counts g)
 
 -- What is told is the law's.
@@ -180,7 +181,8 @@ unfolding decode
 decide-requires c κs =
     let s = c .before .before .before .before .before .before .before .before .before .before in
     let g : Good (decode (s .args .s .now)) = good s in
-    (s .pre .0, (g, omega (arith, g .waiting .few, c .word-at3 .ensures)))
+    let e = s .pre .1 .1 .1 .0 in
+    (s .pre .0, (g, (omega (arith, g .waiting .few, c .word-at3 .ensures), (e, (s .pre .1 .1 .1 .1, omega (arith, e, adds-most (decode (s .args .s .now)) (s .pre .1 .1 .0)))))))
 
 told-requires : tie.Need-told-requires
 told-requires c κs = search needs
@@ -190,8 +192,8 @@ narrow-requires c κs =
     let z : size (c .told .result) ≤ 2000000000 = omega (arith, ap size (tells c), takes (c .before .before) (c .before .if2 .taken) .tells) in
     rw (toZ-ofZ (size-fits w64 (c .told .result) (omega (arith, c .told .ensures .1)))) (omega (arith, z))
 
-cast-t17 : tie.Need-cast-t17
-cast-t17 c = record { fits = omega (arith, takes (c .before .before .before .before) (c .before .before .before .if2 .taken) .few) }
+cast-t19 : tie.Need-cast-t19
+cast-t19 c = record { fits = omega (arith, takes (c .before .before .before .before) (c .before .before .before .if2 .taken) .few) }
 
 returns-2 : tie.Need-returns-2
 unfolding grantItem
@@ -244,7 +246,7 @@ judged-spec =
     decide-requires
     told-requires
     narrow-requires
-    cast-t17
+    cast-t19
     returns-2
     unjudged-requires-2
     returns-3
