@@ -2,15 +2,16 @@
 use Prim.Native.Nat.{ℕ, _≤_, _<_}
 use mathlib.Core.Bool.{Bool, true, false, not, _&&_}
 use mathlib.Core.List.{List, [], _∷_}
-use mathlib.Core.Path.{_≡_, refl, ap}
+use mathlib.Core.Path.{_≡_, refl, sym, ap, _∙_}
 use borrow.Author.Tests.{lt-ltb, le-ltb}
 use native.Mathlib.Omega.{arith}
 use lib.Dec.{ltb}
 use lib.ListN.{length}
 use Rattle.law.specs.declared.Claim.{Claim}
-use Rattle.law.specs.Base.{allTrue, anyOf, sumOf}
+use Rattle.law.specs.Base.{allTrue, anyOf, everyOf, sumOf}
 use Rattle.law.specs.Lists.{never-true}
 use Rattle.law.specs.Types.{mostValue, a1, Figures}
+use Rattle.law.specs.Entries.{entry, isNever}
 use Rattle.law.specs.Granting.{addsOn, total, lockStep, bars, granted}
 use Rattle.law.specs.Sound.{Sound}
 use Rattle.law.specs.DiskType.{diskTable}
@@ -21,7 +22,7 @@ use Rattle.lock.proofs.RuleLaws.{pre-is}
 use Rattle.rules.specs.declared.disk.Disk.{Disk}
 use Rattle.rules.specs.Disks.{diskOf}
 use Rattle.judge.specs.Decisions.{barsAt, barsOf, activesIn, DecidedIs}
-use Rattle.judge.proofs.WalkLaws.{any-same}
+use Rattle.judge.proofs.WalkLaws.{any-same, lock-is}
 
 pub from-not : (b v : Bool) → not b ≡ v → b ≡ not v
 from-not true v h = ap not h
@@ -30,6 +31,18 @@ from-not false v h = ap not h
 no-place : (l : Bool) → false ≡ (l && (false && true))
 no-place true = refl
 no-place false = refl
+
+-- A test that fails, whatever the others answer.
+last-fails : (a b c : Bool) → false ≡ allTrue (a ∷ b ∷ c ∷ false ∷ [])
+last-fails true true true = refl
+last-fails true true false = refl
+last-fails true false c = refl
+last-fails false b c = refl
+
+third-fails : (a b d : Bool) → false ≡ allTrue (a ∷ b ∷ false ∷ d ∷ [])
+third-fails true true d = refl
+third-fails true false d = refl
+third-fails false b d = refl
 
 module _ (f : Figures) (now : ℕ) (ws ahead : List Claim) (c : Claim) where
   -- The clock makes no difference to the lock step and its total.
@@ -59,6 +72,26 @@ module _ (f : Figures) (now : ℕ) (ws ahead : List Claim) (c : Claim) where
         same-lock,
         any-same (barsOf f now (addsOn diskTable a1 ws) c) (bars diskTable (coreOf f now ws) c) bars-is ahead,
       )
+
+  -- With eight active, or one active whose entry with it is N, whatever else holds it is not granted.
+  abbrev fitting : Bool
+  fitting = preOf f now (addsOn diskTable a1 ws) c
+
+  abbrev unbarred : Bool
+  unbarred = not (anyOf (barsOf f now (addsOn diskTable a1 ws) c) ahead)
+
+  pub full-waits : 8 ≤ length ws → false ≡ granted diskTable (coreOf f now ws) ahead c
+  full-waits l =
+      last-fails fitting unbarred (lockStep diskTable (coreOf f 0 ws) c)
+      ∙ ap (λ (b : Bool). allTrue (fitting ∷ unbarred ∷ lockStep diskTable (coreOf f 0 ws) c ∷ b ∷ [])) (sym (le-ltb (length ws) 8 l))
+      ∙ granted-is
+
+  pub never-waits : everyOf (λ w. not (isNever (entry diskTable w c))) ws ≡ false → false ≡ granted diskTable (coreOf f now ws) ahead c
+  never-waits h =
+      let stuck : false ≡ lockStep diskTable (coreOf f 0 ws) c = rw h at (lock-is f c ws) in
+      third-fails fitting unbarred (ltb (length ws) 8)
+      ∙ ap (λ (b : Bool). allTrue (fitting ∷ unbarred ∷ b ∷ ltb (length ws) 8 ∷ [])) stuck
+      ∙ granted-is
 
   module _ {sum : ℕ} (e : sum ≡ addsOn diskTable a1 ws) where
     -- A precondition fails.

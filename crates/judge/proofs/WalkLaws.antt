@@ -97,7 +97,7 @@ module _ (f : Figures) (c : Claim) (ws : List Claim) where
   abbrev within-limit : Bool
   within-limit = leb (total diskTable (coreOf f 0 ws) c) (limitBy f (kindOf diskTable c) (c .error))
 
-  lock-is : ((everyOf (λ w. not (isNever (entry diskTable w c))) ws && everyOf (stays diskTable (coreOf f 0 ws) c) ws)
+  pub lock-is : ((everyOf (λ w. not (isNever (entry diskTable w c))) ws && everyOf (stays diskTable (coreOf f 0 ws) c) ws)
       && within-limit)
       ≡ lockStep diskTable (coreOf f 0 ws) c
   unfolding lockStep

@@ -4,7 +4,9 @@ use mathlib.Core.Bool.{Bool, true, false}
 use mathlib.Core.List.{List, [], _∷_, _++_, map}
 use mathlib.Core.Path.{_≡_, refl, sym, ap, _∙_}
 use native.Mathlib.Omega.{arith}
+use borrow.Author.Tests.{eqb-false}
 use lib.ListN.{length, take, drop, set, length-append}
+use lib.Dec.{eqb}
 use lib.Seq.{take-take}
 use Rattle.num.specs.Runs.{splice}
 use Rattle.law.specs.declared.Attr.{Attr}
@@ -28,6 +30,7 @@ use Rattle.answer.specs.declared.Answer.{Answer}
 use Rattle.answer.specs.Answers.{itemBytes, answerBytes, Behind}
 use Rattle.answer.specs.AnswerLaws.{one-more}
 use Rattle.place.specs.Holding.{withWaiting}
+use Rattle.judge.specs.Decisions.{activesIn}
 use Rattle.pass.specs.Turns.{grantAnswer, tried, front, TurnFits, TurnBy, Turned, closedAt, passedOf}
 
 -- ---- what is told and counted
@@ -280,6 +283,14 @@ module _ {d e : Disk} {a b : List ℕ} {i k : ℕ} (g : Run d e a b i k) (h : i 
       go false q t =
           rw (t .0)
           (record { answers = g .answers; going = going-wait (g .going) h q (t .1); behind = rw (t .2) (g .behind) })
+
+  -- A turn after which one more waits leaves the active claims.
+  pub turn-keeps : (r : Disk) (c : List ℕ) (n : ℕ) → Turned e r b c i k n → eqb n k ≡ false → activesIn r ≡ activesIn e
+  turn-keeps r c n t q = go (granted diskTable (coreIn e) (front e k) (tried e i)) t
+    where
+      go : (v : Bool) → TurnBy v e r b c i k n → activesIn r ≡ activesIn e
+      go true t = absurd (eqb-false n k q (t .0))
+      go false t = ap activesIn (t .1)
 
 -- All are looked at: the disk that is left, and the grants.
 module _ {d e : Disk} {a b : List ℕ} {i k : ℕ} (g : Run d e a b i k) (h : d .waitings ≤ i) where

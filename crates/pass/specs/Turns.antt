@@ -37,6 +37,10 @@ TurnFits d i =
     ((x : Attribute) → attr (figuresIn d) x .limit ≤ mostError) ×
     (tried d i .error ≤ mostError)
 
+-- The disk d with the i-th waiting claim in the k-th place.
+abbrev pub keptAt : Disk → ℕ → ℕ → Disk
+keptAt d i k = withWaiting d (d .waitings) (set (d .waiting) k (tried d i))
+
 -- A turn on the disk d and the answer buffer a leaves e and b, and r claims that wait.
 abbrev pub TurnBy : Bool → Disk → Disk → List ℕ → List ℕ → ℕ → ℕ → ℕ → Type 0
 TurnBy true d e a b i k r =
@@ -45,7 +49,7 @@ TurnBy true d e a b i k r =
     (b ≡ splice a (16 + 16 * (i - k)) (itemBytes (grantAnswer (grantItem diskTable (coreIn d) (tried d i)))))
 TurnBy false d e a b i k r =
     (r ≡ k + 1) ×
-    (e ≡ withWaiting d (d .waitings) (set (d .waiting) k (tried d i))) ×
+    (e ≡ keptAt d i k) ×
     (b ≡ a)
 
 abbrev pub Turned : Disk → Disk → List ℕ → List ℕ → ℕ → ℕ → ℕ → Type 0

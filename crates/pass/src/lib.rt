@@ -1,24 +1,34 @@
 // The pass on the part of a disk: every waiting claim is tried once, in order, on the state so far, and each grant stands in
 // the answer buffer.
 
-ghost use mathlib.Core.Bool.{true};
+ghost use mathlib.Core.Bool.{true, false};
 ghost use mathlib.Core.List.{map};
 ghost use mathlib.Core.Path.{_≡_};
-ghost use Prim.Native.Nat.{_≤_, _<_};
+ghost use Prim.Native.Nat.{_+_, _≤_, _<_};
 ghost use lib.ListN.{length};
+ghost use Rattle.law.specs.Base.{sumOf};
 ghost use Rattle.law.specs.Calls.{pass as lawPass};
 ghost use Rattle.law.specs.Sound.{Sound};
 ghost use Rattle.law.specs.DiskType.{diskTable};
+ghost use Rattle.lock.specs.Masks.{methodsOf};
+ghost use Rattle.lock.specs.Pairs.{addOf};
 ghost use Rattle.rules.specs.Disks.{Good, DiskIs};
 ghost use Rattle.part.specs.Layout.{decode, decodes};
 ghost use Rattle.part.specs.Held.{held, partFor};
 ghost use Rattle.answer.specs.Answers.{OwnOnly, Behind};
 ghost use Rattle.place.specs.Holding.{Holds};
-ghost use Rattle.pass.specs.Turns.{grantAnswer, TurnFits, Turned, closedAt, passedOf};
+ghost use Rattle.judge.specs.Decisions.{activesIn};
+ghost use Rattle.pass.specs.Turns.{grantAnswer, tried, keptAt, TurnFits, Turned, closedAt, passedOf};
 use answer::put_grant;
+use judge::step::Together;
 use judge::step::decide;
+use judge::step::taken_together;
+use law::Claim;
 use lock::figures::told;
+use lock::method::never;
+use num::bits::share;
 use num::signed::narrow;
+use num::truth::either;
 use num::word::put_word;
 use num::word::word_at;
 use part::read::code_at;
@@ -29,9 +39,27 @@ use place::grant::grant;
 use slots::clear_from;
 use slots::put_slot;
 
+// The claim c, the i-th waiting one, waits on in the k-th place, where it may stand already. How many wait then.
+fn keep(s: &mut [u8], i: usize, k: usize, c: Claim) -> usize
+    requires { ⌜ length (now s) ≡ 768 ⌝ }
+    requires { ⌜ Holds (now s) (decode (now s)) ⌝ }
+    requires { ⌜ i < 8 ⌝ }
+    requires { ⌜ k ≤ i ⌝ }
+    requires { ⌜ c ≡ tried (decode (now s)) i ⌝ }
+    ensures { λ r. ⌜ r ≡ k + 1 ⌝ }
+    ensures { λ _. ⌜ Holds (now (s .exit)) (decode (now (s .exit))) ⌝ }
+    ensures { λ _. ⌜ decode (now (s .exit)) ≡ keptAt (decode (now (s .entry))) i k ⌝ }
+{
+    if k == i {
+        return k + 1;
+    }
+    put_slot(&mut s[416..768], k, c);
+    k + 1
+}
+
 // The i-th waiting claim, of which k ahead still wait: it is granted, and its grant stands behind those of the i - k others;
-// or it waits on in the k-th place. How many wait then.
-fn turn(s: &mut [u8], answer: &mut [u8], i: usize, k: usize) -> usize
+// or it waits on in the k-th place. How many wait then. With eight active, or one active whose entry is N, it waits undecided.
+fn turn(s: &mut [u8], answer: &mut [u8], i: usize, k: usize, adds: u64, methods: u64) -> usize
     requires { ⌜ length (now s) ≡ 768 ⌝ }
     requires { ⌜ Holds (now s) (decode (now s)) ⌝ }
     requires { ⌜ Good (decode (now s)) ⌝ }
@@ -39,11 +67,17 @@ fn turn(s: &mut [u8], answer: &mut [u8], i: usize, k: usize) -> usize
     requires { ⌜ i < decode (now s) .waitings ⌝ }
     requires { ⌜ k ≤ i ⌝ }
     requires { ⌜ length (now answer) ≡ 144 ⌝ }
+    requires { ⌜ adds ≡ sumOf addOf (activesIn (decode (now s))) ⌝ }
+    requires { ⌜ methods ≡ methodsOf (activesIn (decode (now s))) ⌝ }
+    requires { ⌜ adds ≤ 17179869184 ⌝ }
     ensures { λ _. ⌜ Holds (now (s .exit)) (decode (now (s .exit))) ⌝ }
     ensures { λ r. ⌜ Turned (decode (now (s .entry))) (decode (now (s .exit))) (now (answer .entry)) (now (answer .exit)) i k r ⌝ }
 {
     let c = waiting_at(s, i);
-    let v = decide(s, k, c, word_at(s, 0));
+    if either(8 <= word_at(s, 8), share(methods, never(c.method))) {
+        return keep(s, i, k, c);
+    }
+    let v = decide(s, k, c, word_at(s, 0), adds, methods);
     if v.ok {
         let z = narrow(told(c.method, used_at(s), promised_at(s), code_at(s)));
         let total = v.total as u32;
@@ -51,8 +85,7 @@ fn turn(s: &mut [u8], answer: &mut [u8], i: usize, k: usize) -> usize
         put_grant(answer, i - k, c.ticket, z, total);
         return k;
     }
-    put_slot(&mut s[416..768], k, c);
-    k + 1
+    keep(s, i, k, c)
 }
 
 // The first k of the n waiting claims wait on; the places behind them are cleared.
@@ -69,6 +102,40 @@ fn close(s: &mut [u8], k: usize, n: usize)
     put_word(s, 12, k as u32);
 }
 
+// What the active claims come to, where one of n waits; where none does, nothing is looked at.
+fn for_waiting(s: &[u8], n: usize) -> Together
+    requires { ⌜ length (now s) ≡ 768 ⌝ }
+    requires { ⌜ Good (decode (now s)) ⌝ }
+    ensures { λ r. ⌜ (0 < n → r .adds ≡ sumOf addOf (activesIn (decode (now (s .entry))))) ⌝ }
+    ensures { λ r. ⌜ (0 < n → r .methods ≡ methodsOf (activesIn (decode (now (s .entry))))) ⌝ }
+    ensures { λ r. ⌜ r .adds ≤ 17179869184 ⌝ }
+{
+    if n == 0 {
+        return Together {
+            adds: 0,
+            methods: 0,
+        };
+    }
+    taken_together(s)
+}
+
+// The same after a turn: anew where a claim was granted, else as it was.
+fn after_turn(s: &[u8], granted: bool, adds: u64, methods: u64) -> Together
+    requires { ⌜ length (now s) ≡ 768 ⌝ }
+    requires { ⌜ Good (decode (now s)) ⌝ }
+    requires { ⌜ (granted ≡ false → adds ≡ sumOf addOf (activesIn (decode (now s)))) ⌝ }
+    requires { ⌜ (granted ≡ false → methods ≡ methodsOf (activesIn (decode (now s)))) ⌝ }
+    requires { ⌜ adds ≤ 17179869184 ⌝ }
+    ensures { λ r. ⌜ r .adds ≡ sumOf addOf (activesIn (decode (now (s .entry)))) ⌝ }
+    ensures { λ r. ⌜ r .methods ≡ methodsOf (activesIn (decode (now (s .entry)))) ⌝ }
+    ensures { λ r. ⌜ r .adds ≤ 17179869184 ⌝ }
+{
+    if granted {
+        return taken_together(s);
+    }
+    Together { adds, methods }
+}
+
 // The pass, behind the one answer in the buffer. Of the i claims looked at, k still wait and stand in front.
 pub fn pass(s: &mut [u8], answer: &mut [u8])
     requires { ⌜ length (now s) ≡ 768 ⌝ }
@@ -80,10 +147,17 @@ pub fn pass(s: &mut [u8], answer: &mut [u8])
     ensures { λ _. ⌜ Behind (now (answer .entry)) (map grantAnswer (lawPass diskTable (held (now (s .entry)) .core) (held (now (s .entry)) .waiting) .items)) (now (answer .exit)) ⌝ }
 {
     let n = word_at(s, 12) as usize;
+    let first = for_waiting(s, n);
+    let mut adds = first.adds;
+    let mut methods = first.methods;
     let mut i: usize = 0;
     let mut k: usize = 0;
     while i < n {
-        k = turn(s, answer, i, k);
+        let waits = turn(s, answer, i, k, adds, methods);
+        let then = after_turn(s, waits == k, adds, methods);
+        adds = then.adds;
+        methods = then.methods;
+        k = waits;
         i += 1;
     }
     close(s, k, n);

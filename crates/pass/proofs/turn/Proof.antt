@@ -1,15 +1,16 @@
 -- The decision says which turn it is: a grant, with its item behind the others, or a place among those that wait.
 use Prim.Native.Nat.{ℕ, _+_, _-_, _*_, _≤_, _<_}
-use mathlib.Core.Bool.{Bool, true}
+use mathlib.Core.Bool.{Bool, true, false, _||_}
 use mathlib.Core.List.{List}
 use mathlib.Core.Path.{_≡_, refl, sym, ap, _∙_, subst}
 use native.Mathlib.Omega.{arith}
 use borrow.Author.Needs.{needs}
-use borrow.Rule.Slice.PartMut.{putMid}
-use lib.ListN.{length, set}
+use borrow.Author.Tests.{leb-true, not-true}
+use lib.Bits.{bitAnd}
+use lib.Dec.{leb, eqb}
+use lib.ListN.{length}
 use mir.Facts.{toZ-ofZ}
 use Rattle.num.specs.Runs.{splice}
-use Rattle.num.specs.RunLaws.{mid-splice}
 use Rattle.law.specs.declared.Claim.{Claim}
 use Rattle.law.specs.Types.{mostError}
 use Rattle.law.specs.Entries.{kindAt, kindOf}
@@ -17,14 +18,17 @@ use Rattle.law.specs.Granting.{tellBy, total, granted, grantItem}
 use Rattle.law.specs.GrantLaws.{MayGrant, grant-says}
 use Rattle.law.specs.DiskType.{diskTable}
 use Rattle.lock.specs.Methods.{figuresOf}
-use Rattle.judge.specs.Decisions.{DecidedIs}
+use Rattle.claims.specs.RowLaws.{row-length}
+use Rattle.lock.specs.Masks.{neverMask}
+use Rattle.lock.proofs.MaskLaws.{one-never}
+use Rattle.judge.specs.Decisions.{activesIn, DecidedIs}
+use Rattle.judge.proofs.ReadLaws.{actives-read}
+use Rattle.judge.proofs.DecideLaws.{full-waits, never-waits}
 use Rattle.rules.specs.declared.disk.Disk.{Disk}
 use Rattle.rules.specs.Disks.{figuresIn, coreIn, diskOf, DiskIs, grantOf}
-use Rattle.part.specs.Layout.{slots, decode}
+use Rattle.part.specs.Layout.{decode}
 use Rattle.answer.specs.declared.Answer.the-variants.{Granted}
 use Rattle.answer.specs.Answers.{itemBytes}
-use Rattle.place.specs.Holding.{Holds, withWaiting}
-use Rattle.place.specs.HoldingLaws.{holds-decode, holds-self, waiting-slots, waiting-kept, put-waiting-run}
 use Rattle.pass.specs.Turns.{tried, front, TurnBy}
 use Rattle.pass.proofs.PassLaws.{tell-fits, total-most}
 use Rattle.pass.proofs.turn.Statement.{statement}
@@ -39,15 +43,15 @@ place : (k : tie.Start) → k .args .i < 8
 place k = omega (arith, k .pre .1 .1 .1 .1 .0, k .pre .1 .1 .0 .waiting .few)
 
 -- The decision on the claim that is tried.
-verdict : (v : tie.After-decide) → let k = v .before .before .before .before .before .before .before in
+verdict : (v : tie.After-decide) → let k = v .before .before .before .before .before .before .before .before .before .before .before .before .before in
     DecidedIs (v .decide .result .ok) (v .decide .result .total) (coreIn (disk k)) (front (disk k) (k .args .k)) (tried (disk k) (k .args .i))
 unfolding decode
-verdict v = rw (v .before .before .before .waiting-at .ensures, v .before .word-at .ensures) at (v .decide .ensures)
+verdict v = rw (v .before .before .before .before .before .before .before .before .before .waiting-at .ensures, v .before .word-at2 .ensures) at (v .decide .ensures)
 
 -- It is granted.
-module _ (b : tie.Then1) where
+module _ (b : tie.Then2) where
   abbrev start : tie.Start
-  start = b .before .before .before .before .before .before .before .before
+  start = b .before .before .before .before .before .before .before .before .before .before .before .before .before .before
 
   abbrev d : Disk
   d = disk start
@@ -56,26 +60,26 @@ module _ (b : tie.Then1) where
   c = tried d (start .args .i)
 
   pub yes : granted diskTable (coreIn d) (front d (start .args .k)) c ≡ true
-  yes = sym (verdict (b .before) .says) ∙ b .if1 .taken
+  yes = sym (verdict (b .before) .says) ∙ b .if2 .taken
 
   pub may : MayGrant diskTable (coreIn d) c
   may = grant-says diskTable (coreIn d) (front d (start .args .k)) c yes
 
   pub sum : b .before .decide .result .total ≡ total diskTable (coreIn d) c
-  sum = verdict (b .before) .counts (b .if1 .taken)
+  sum = verdict (b .before) .counts (b .if2 .taken)
 
   pub few : b .before .decide .result .total ≤ mostError
   few = omega (arith, sum, total-most d (start .args .i) (start .pre .1 .1 .1 .0) may)
 
 -- What it is told.
-told-is : (t : tie.After-told) → t .told .result ≡ tellBy (figuresIn (disk (t .before .before .before .before .before .before .before .before .before .before .before .before .before .before .before))) (kindOf diskTable (tried (disk (t .before .before .before .before .before .before .before .before .before .before .before .before .before .before .before)) (t .before .before .before .before .before .before .before .before .before .before .before .before .before .before .before .args .i)))
+told-is : (t : tie.After-told) → t .told .result ≡ tellBy (figuresIn (disk (t .before .before .before .before .before .before .before .before .before .before .before .before .before .before .before .before .before .before .before .before .before))) (kindOf diskTable (tried (disk (t .before .before .before .before .before .before .before .before .before .before .before .before .before .before .before .before .before .before .before .before .before)) (t .before .before .before .before .before .before .before .before .before .before .before .before .before .before .before .before .before .before .before .before .before .args .i)))
 told-is t =
     t .told .ensures .0
-    ∙ (λ j. tellBy (figuresOf (t .before .before .before .before .before .used-at .ensures j) (t .before .before .before .promised-at .ensures j) (t .before .code-at .ensures j)) (kindAt diskTable (t .before .before .before .before .before .before .before .before .before .before .before .waiting-at .ensures j .method)))
+    ∙ (λ j. tellBy (figuresOf (t .before .before .before .before .before .used-at .ensures j) (t .before .before .before .promised-at .ensures j) (t .before .code-at .ensures j)) (kindAt diskTable (t .before .before .before .before .before .before .before .before .before .before .before .before .before .before .before .before .before .waiting-at .ensures j .method)))
 
--- The slots that come back are as many bytes.
-long : (k : tie.After-put-slot) → length (k .put-slot .last .0) ≡ 352
-long k = search needs
+-- The i-th claim is what is read, and what is kept.
+read-is : (w : tie.After-waiting-at) → w .waiting-at .result ≡ tried (disk (w .before .before .before .before)) (w .before .before .before .before .args .i)
+read-is w = w .waiting-at .ensures
 
 waiting-at-requires : tie.Need-waiting-at-requires
 waiting-at-requires c κs = (search needs, place (c .before .before .before))
@@ -83,10 +87,67 @@ waiting-at-requires c κs = (search needs, place (c .before .before .before))
 word-at-requires : tie.Need-word-at-requires
 word-at-requires c κs = search needs
 
+never-requires : tie.Need-never-requires
+never-requires c κs = tt
+
+share-requires : tie.Need-share-requires
+share-requires c κs = tt
+
+either-requires : tie.Need-either-requires
+either-requires c κs = tt
+
+-- What `keep` wants: the claim read is the i-th.
+keep-requires : tie.Need-keep-requires
+keep-requires c κs =
+    let w = c .before .before .before .before .before .before .before in
+    let k = w .before .before .before .before in
+    (k .pre .0, (k .pre .1 .0, (place k, (k .pre .1 .1 .1 .1 .1 .0, read-is w))))
+
+-- With eight active, or one whose entry is N, it is not granted.
+stuck : (t : tie.Then1) →
+    let k = t .before .before .before .before .before .before .before .before .before .before in
+    granted diskTable (coreIn (disk k)) (front (disk k) (k .args .k)) (tried (disk k) (k .args .i)) ≡ false
+stuck t =
+    let w = t .before .before .before .before .before .before in
+    let k = w .before .before .before .before in
+    let d = disk k in
+    let c = tried d (k .args .i) in
+    let count : t .before .before .before .before .word-at .result ≡ length (activesIn d) =
+    t .before .before .before .before .word-at .ensures ∙ actives-read (k .args .s .now) ∙ sym (row-length (k .pre .1 .1 .0 .active)) in
+    sym
+    (either-way (leb 8 (t .before .before .before .before .word-at .result)) (t .before .before .share .result) (sym (t .before .either .ensures) ∙ t .if1 .taken)
+    (λ full. full-waits (figuresIn d) (d .clock) (activesIn d) (front d (k .args .k)) c (omega (arith, count, leb-true 8 (t .before .before .before .before .word-at .result) full)))
+    (λ met.
+    never-waits (figuresIn d) (d .clock) (activesIn d) (front d (k .args .k)) c
+    (one-never c (activesIn d)
+    (sym (λ j. eqb (bitAnd (k .pre .1 .1 .1 .1 .1 .1 .1 .1 .0 j) ((t .before .before .before .never .ensures ∙ ap (λ (x : Claim). neverMask (x .method)) (read-is w)) j)) 0)
+    ∙ not-true (eqb (bitAnd (k .args .methods) (t .before .before .before .never .result)) 0) (sym (t .before .before .share .ensures) ∙ met)))))
+  where
+    either-way : {X : Type 0} (a b : Bool) → (a || b) ≡ true → (a ≡ true → X) → (b ≡ true → X) → X
+    either-way true b h f g = f refl
+    either-way false b h f g = g h
+
+same-length : tie.Need-same-length
+same-length c = search needs
+
+returns : tie.Need-returns
+returns c =
+    let k = c .before .before .before .before .before .before .before .before .before .before .before .before .before .before in
+    let a = k .args in
+    let e = c .before .before .keep .ensures in (
+      e .1 .0,
+      subst (λ (v : Bool). TurnBy v (disk k) (decode (c .before .before .keep .last .0)) (a .answer .now) (a .answer .now) (a .i) (a .k) (c .before .before .keep .result))
+          (sym (stuck (c .before .before .before .before))) (e .0, e .1 .1, refl),
+    )
+
+word-at-requires-2 : tie.Need-word-at-requires-2
+word-at-requires-2 c κs = search needs
+
 decide-requires : tie.Need-decide-requires
 decide-requires c κs =
-    let k = c .before .before .before .before .before .before in
-    (k .pre .0, (k .pre .1 .1 .0, omega (arith, k .pre .1 .1 .1 .1 .1 .0, place k)))
+    let k = c .before .before .before .before .before .before .before .before .before .before .before .before in
+    let p = k .pre .1 .1 .1 .1 .1 .1 in
+    (k .pre .0, (k .pre .1 .1 .0, (omega (arith, k .pre .1 .1 .1 .1 .1 .0, place k), (p .1 .0, (p .1 .1 .0, p .1 .1 .1)))))
 
 used-at-requires : tie.Need-used-at-requires
 used-at-requires c κs = search needs
@@ -95,14 +156,14 @@ promised-at-requires : tie.Need-promised-at-requires
 promised-at-requires c κs = search needs
 
 code-at-requires : tie.Need-code-at-requires
-code-at-requires c κs = search needs
+code-at-requires c κs = c .before .before .before .before .before .before .before .before .before .before .before .before .before .before .before .before .before .before .before .pre .0
 
 told-requires : tie.Need-told-requires
 told-requires c κs = search needs
 
 narrow-requires : tie.Need-narrow-requires
 narrow-requires c κs =
-    let k = c .before .before .before .before .before .before .before .before .before .before .before .before .before .before .before in
+    let k = c .before .before .before .before .before .before .before .before .before .before .before .before .before .before .before .before .before .before .before .before .before in
     rw (toZ-ofZ (record { sfits = c .told .ok }), told-is c) (omega (arith, tell-fits (disk k) (k .args .i) (k .pre .1 .1 .1 .0)))
 
 cast-total : tie.Need-cast-total
@@ -111,8 +172,8 @@ cast-total c = record { fits = omega (arith, few (c .before .before .before .bef
 grant-requires : tie.Need-grant-requires
 grant-requires c κs =
     let b = c .before .before .before .before .before .before .before .before .before .before in
-    let k = c .before .before .before .before .before .before .before .before .before .before .before .before .before .before .before .before .before .before in
-    let e = c .before .before .before .before .before .before .before .before .before .before .before .before .before .before .waiting-at .ensures in (
+    let k = c .before .before .before .before .before .before .before .before .before .before .before .before .before .before .before .before .before .before .before .before .before .before .before .before in
+    let e = c .before .before .before .before .before .before .before .before .before .before .before .before .before .before .before .before .before .before .before .before .waiting-at .ensures in (
       k .pre .0,
       (
         k .pre .1 .0,
@@ -134,26 +195,26 @@ grant-requires c κs =
     )
 
 sub-put-grant : tie.Need-sub-put-grant
-sub-put-grant c = omega (arith, c .before .before .before .before .before .before .before .before .before .before .before .before .before .before .before .before .before .before .before .before .before .before .pre .1 .1 .1 .1 .1 .0)
+sub-put-grant c = omega (arith, c .before .before .before .before .before .before .before .before .before .before .before .before .before .before .before .before .before .before .before .before .before .before .before .before .before .before .before .before .pre .1 .1 .1 .1 .1 .0)
 
 put-grant-requires : tie.Need-put-grant-requires
 put-grant-requires c κs =
-    let k = c .before .before .before .before .before .before .before .before .before .before .before .before .before .before .before .before .before .before .before .before .before .before in
-    (k .pre .1 .1 .1 .1 .1 .1, omega (arith, place k))
-
-same-length : tie.Need-same-length
-same-length c = search needs
+    let k = c .before .before .before .before .before .before .before .before .before .before .before .before .before .before .before .before .before .before .before .before .before .before .before .before .before .before .before .before in
+    (k .pre .1 .1 .1 .1 .1 .1 .0, omega (arith, place k))
 
 same-length-2 : tie.Need-same-length-2
 same-length-2 c = search needs
 
-returns : tie.Need-returns
+same-length-3 : tie.Need-same-length-3
+same-length-3 c = search needs
+
+returns-2 : tie.Need-returns-2
 unfolding grantItem
-returns c =
-    let k = c .before .before .before .before .before .before .before .before .before .before .before .before .before .before .before .before .before .before .before .before .before .before .before .before .before in
+returns-2 c =
+    let k = c .before .before .before .before .before .before .before .before .before .before .before .before .before .before .before .before .before .before .before .before .before .before .before .before .before .before .before .before .before .before .before in
     let b = c .before .before .before .before .before .before .before .before .before .before .before .before .before .before .before .before .before in
     let a = k .args in
-    let e = c .before .before .before .before .before .before .before .before .before .before .before .before .before .before .before .before .before .before .before .before .before .waiting-at .ensures in
+    let e = c .before .before .before .before .before .before .before .before .before .before .before .before .before .before .before .before .before .before .before .before .before .before .before .before .before .before .before .waiting-at .ensures in
     let z =
     toZ-ofZ (record { sfits = c .before .before .before .before .before .before .before .before .before .narrow .ok })
     ∙ c .before .before .before .before .before .before .before .before .before .narrow .ensures
@@ -169,41 +230,23 @@ returns c =
       ),
     )
 
-sub-put-slot : tie.Need-sub-put-slot
-sub-put-slot c = search needs
+keep-requires-2 : tie.Need-keep-requires-2
+keep-requires-2 c κs =
+    let w = c .before .before .before .before .before .before .before .before .before .before .before in
+    let k = w .before .before .before .before in
+    (k .pre .0, (k .pre .1 .0, (place k, (k .pre .1 .1 .1 .1 .1 .0, read-is w))))
 
-part-put-slot-start : tie.Need-part-put-slot-start
-part-put-slot-start c = search needs
+same-length-4 : tie.Need-same-length-4
+same-length-4 c = search needs
 
-part-put-slot-end : tie.Need-part-put-slot-end
-part-put-slot-end c = search needs
-
-put-slot-requires : tie.Need-put-slot-requires
-put-slot-requires c κs =
-    let k = c .before .before .before .before .before .before .before .before .before in
-    (search needs, (waiting-kept (k .pre .1 .0), omega (arith, k .pre .1 .1 .1 .1 .1 .0, place k)))
-
-add-result : tie.Need-add-result
-add-result c = search needs
-
-same-length-3 : tie.Need-same-length-3
-same-length-3 c = search needs
-
-returns-2 : tie.Need-returns-2
-returns-2 c =
-    let k = c .before .before .before .before .before .before .before .before .before .before .before .before in
+returns-3 : tie.Need-returns-3
+returns-3 c =
+    let k = c .before .before .before .before .before .before .before .before .before .before .before .before .before .before .before .before .before .before in
     let a = k .args in
-    let h = k .pre .1 .0 in
-    let p = c .before .before .put-slot in
-    let put : slots 8 (p .last .0) ≡ set (disk k .waiting) (a .k) (tried (disk k) (a .i)) =
-    p .ensures .1 ∙ (λ j. set (waiting-slots h j) (a .k) (c .before .before .before .before .before .before .before .before .waiting-at .ensures j)) in
-    let held : Holds _ (withWaiting (disk k) (disk k .waitings) (set (disk k .waiting) (a .k) (tried (disk k) (a .i)))) =
-    subst (λ (r : List ℕ). Holds r (withWaiting (disk k) (disk k .waitings) (set (disk k .waiting) (a .k) (tried (disk k) (a .i)))))
-    (sym (mid-splice 416 768 (a .s .now) (p .last .0) (omega arith) (omega (arith, k .pre .0)) (long (c .before .before))))
-    (subst (λ (cs : List Claim). Holds (splice (a .s .now) 416 (p .last .0)) (withWaiting (disk k) (disk k .waitings) cs)) put (put-waiting-run h (p .ensures .0))) in (
-      holds-self held,
-      subst (λ (v : Bool). TurnBy v (disk k) (decode (putMid 416 352 (a .s .now) (p .last .0))) (a .answer .now) (a .answer .now) (a .i) (a .k) (a .k + 1))
-          (sym (sym (verdict (c .before .before .before .before .before) .says) ∙ c .before .before .before .before .if1 .left)) (refl, holds-decode held, refl),
+    let e = c .before .before .keep2 .ensures in (
+      e .1 .0,
+      subst (λ (v : Bool). TurnBy v (disk k) (decode (c .before .before .keep2 .last .0)) (a .answer .now) (a .answer .now) (a .i) (a .k) (c .before .before .keep2 .result))
+          (sym (sym (verdict (c .before .before .before .before .before) .says) ∙ c .before .before .before .before .if2 .left)) (e .0, e .1 .1, refl),
     )
 
 pub turn-spec : {M : Type 1} → statement M
@@ -212,6 +255,13 @@ turn-spec =
     (tie.spec
     waiting-at-requires
     word-at-requires
+    never-requires
+    share-requires
+    either-requires
+    keep-requires
+    same-length
+    returns
+    word-at-requires-2
     decide-requires
     used-at-requires
     promised-at-requires
@@ -222,13 +272,9 @@ turn-spec =
     grant-requires
     sub-put-grant
     put-grant-requires
-    same-length
     same-length-2
-    returns
-    sub-put-slot
-    part-put-slot-start
-    part-put-slot-end
-    put-slot-requires
-    add-result
     same-length-3
-    returns-2)
+    returns-2
+    keep-requires-2
+    same-length-4
+    returns-3)

@@ -1,0 +1,90 @@
+-- A claim put where it stands changes nothing; elsewhere its slot is put, as the disk's is.
+use Prim.Native.Nat.{ℕ, _+_}
+use mathlib.Core.List.{List}
+use mathlib.Core.Path.{_≡_, refl, sym, ap, _∙_, subst}
+use native.Mathlib.Omega.{arith}
+use borrow.Author.Needs.{needs}
+use lib.ListN.{length, set}
+use lib.Seq.{set-getD}
+use borrow.Rule.Slice.PartMut.{putMid}
+use Rattle.num.specs.Runs.{splice}
+use Rattle.num.specs.RunLaws.{mid-splice}
+use Rattle.law.specs.declared.Claim.{Claim}
+use Rattle.claims.specs.Rows.{noClaim}
+use Rattle.rules.specs.declared.disk.Disk.{Disk}
+use Rattle.part.specs.Layout.{slots, decode}
+use Rattle.place.specs.Holding.{Holds, withWaiting}
+use Rattle.place.specs.HoldingLaws.{holds-decode, holds-self, waiting-slots, waiting-kept, put-waiting-run}
+use Rattle.pass.specs.Turns.{tried, keptAt}
+use Rattle.pass.proofs.keep.Statement.{statement}
+use Rattle.pass.proofs.keep.Tie as tie
+
+-- The disk of the part.
+abbrev disk : tie.Start → Disk
+disk k = decode (k .args .s .now)
+
+-- A claim put where it stands.
+stays : (d : Disk) (i k : ℕ) → k ≡ i → d ≡ keptAt d i k
+stays d i k e =
+    ap (withWaiting d (d .waitings)) (sym (set-getD (d .waiting) i noClaim))
+    ∙ ap (λ (j : ℕ). withWaiting d (d .waitings) (set (d .waiting) j (tried d i))) (sym e)
+
+-- The slots that come back are as many bytes.
+long : (k : tie.After-put-slot) → length (k .put-slot .last .0) ≡ 352
+long k = search needs
+
+add-result : tie.Need-add-result
+add-result c = search needs
+
+returns : tie.Need-returns
+returns c =
+    let k = c .before .before in
+    (refl, (k .pre .1 .0, stays (disk k) (k .args .i) (k .args .k) (c .if1 .taken)))
+
+sub-put-slot : tie.Need-sub-put-slot
+sub-put-slot c = search needs
+
+part-put-slot-start : tie.Need-part-put-slot-start
+part-put-slot-start c = search needs
+
+part-put-slot-end : tie.Need-part-put-slot-end
+part-put-slot-end c = search needs
+
+put-slot-requires : tie.Need-put-slot-requires
+put-slot-requires c κs =
+    let k = c .before .before .before in
+    (search needs, (waiting-kept (k .pre .1 .0), omega (arith, k .pre .1 .1 .0, k .pre .1 .1 .1 .0)))
+
+add-result-2 : tie.Need-add-result-2
+add-result-2 c = search needs
+
+same-length : tie.Need-same-length
+same-length c = search needs
+
+returns-2 : tie.Need-returns-2
+returns-2 c =
+    let k = c .before .before .before .before .before .before in
+    let a = k .args in
+    let h = k .pre .1 .0 in
+    let p = c .before .before .put-slot in
+    let put : slots 8 (p .last .0) ≡ set (disk k .waiting) (a .k) (tried (disk k) (a .i)) =
+    p .ensures .1 ∙ (λ j. set (waiting-slots h j) (a .k) (k .pre .1 .1 .1 .1 j)) in
+    let held : Holds (putMid 416 352 (a .s .now) (p .last .0)) (keptAt (disk k) (a .i) (a .k)) =
+    subst (λ (r : List ℕ). Holds r (keptAt (disk k) (a .i) (a .k)))
+    (sym (mid-splice 416 768 (a .s .now) (p .last .0) (omega arith) (omega (arith, k .pre .0)) (long (c .before .before))))
+    (subst (λ (cs : List Claim). Holds (splice (a .s .now) 416 (p .last .0)) (withWaiting (disk k) (disk k .waitings) cs)) put (put-waiting-run h (p .ensures .0))) in
+    (refl, (holds-self held, holds-decode held))
+
+pub keep-spec : {M : Type 1} → statement M
+keep-spec =
+    tie.close
+    (tie.spec
+    add-result
+    returns
+    sub-put-slot
+    part-put-slot-start
+    part-put-slot-end
+    put-slot-requires
+    add-result-2
+    same-length
+    returns-2)
