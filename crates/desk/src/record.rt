@@ -5,8 +5,8 @@ ghost use lib.ListN.{length};
 ghost use Rattle.rules.specs.Answers.{askedOf};
 ghost use Rattle.desk.specs.Record.{wellFormed, kindFits, askedOf as askedIn};
 use num::signed::signed_at;
+use num::truth::both;
 use num::word::word_at;
-use part::whole::both;
 use part::whole::zero_between;
 use rules::disk::Asked;
 

@@ -173,6 +173,13 @@ zero-append [] ys = refl
 zero-append (x ∷ xs) ys =
     ap (λ (b : Bool). eqb x 0 && b) (zero-append xs ys) ∙ sym (and-assoc (eqb x 0) (allZero xs) (allZero ys))
 
+-- A range is zero if its two pieces are.
+pub zero-split : (s : List ℕ) (at m n : ℕ) → zeroAt s at (m + n) ≡ (zeroAt s at m && zeroAt s (at + m) n)
+zero-split s at m n =
+    ap allZero (take-add m n (drop at s))
+    ∙ zero-append (take m (drop at s)) (take n (drop m (drop at s)))
+    ∙ ap (λ (r : List ℕ). zeroAt s at m && allZero (take n r)) (drop-drop m at s)
+
 zero-four : (a b c d : ℕ) → eqb (word4 a b c d) 0 ≡ allZero (a ∷ b ∷ c ∷ d ∷ [])
 unfolding allZero
 zero-four zero zero zero zero = refl
@@ -191,13 +198,8 @@ zero-word s at h =
 pub zero-two : (s : List ℕ) (at : ℕ) → at + 8 ≤ length s →
     eqb (bitOr (wordAt s at) (wordAt s (at + 4))) 0 ≡ zeroAt s at 8
 zero-two s at h =
-    rw (
-      or-none (wordAt s at) (wordAt s (at + 4)),
-      zero-word s at (omega arith),
-      zero-word s (at + 4) (omega arith),
-      ← drop-drop 4 at s,
-    )
-    (sym (ap allZero (take-add 4 4 (drop at s)) ∙ zero-append (take 4 (drop at s)) (take 4 (drop 4 (drop at s)))))
+    rw (or-none (wordAt s at) (wordAt s (at + 4)), zero-word s at (omega arith), zero-word s (at + 4) (omega arith))
+    (sym (zero-split s at 4 4))
 
 -- ---- a walk over bytes that are to be zero
 

@@ -1,19 +1,23 @@
--- The slots looked at so far are tested as `spareZero` tests them.
-use Prim.Native.Nat.{_-_, _≤_}
+-- The spare words of the slots looked at so far, joined, are zero if `spareZero` says so.
+use Prim.Native.Nat.{_+_, _*_, _-_, _≤_}
 use mathlib.Core.Path.{_≡_, refl}
 use native.Mathlib.Numerals.{add-one}
 use native.Mathlib.Omega.{arith}
+use lib.Bits.{bitOr}
+use lib.Dec.{eqb}
 use borrow.Author.Needs.{needs}
+use Rattle.num.specs.Word.{wordAt}
+use Rattle.part.specs.ByteLaws.{or-none, zero-two}
 use Rattle.part.specs.Layout.{spareZero}
 use Rattle.part.proofs.whole.spare_zero.Statement.{statement}
 use Rattle.part.proofs.whole.spare_zero.Tie as tie
 
 abbrev Inv-loop : tie.InvT-loop
-Inv-loop s at n ok₀ i₀ ok i =
-    (i ≤ n) × (ok ≡ spareZero s at i)
+Inv-loop s at n all₀ i₀ all i =
+    (i ≤ n) × (eqb all 0 ≡ spareZero s at i)
 
 abbrev μ-loop : tie.MeasureT-loop
-μ-loop s at n ok₀ i₀ ok i =
+μ-loop s at n all₀ i₀ all i =
     n - i
 
 loop-holds : tie.Need-loop-holds Inv-loop μ-loop
@@ -21,20 +25,23 @@ unfolding spareZero
 loop-holds c =
     (omega arith, refl)
 
-mul-zero-two : tie.Need-mul-zero-two Inv-loop μ-loop
-mul-zero-two c = search needs
+mul-p : tie.Need-mul-p Inv-loop μ-loop
+mul-p c = search needs
 
-add-zero-two : tie.Need-add-zero-two Inv-loop μ-loop
-add-zero-two c = search needs
+add-p : tie.Need-add-p Inv-loop μ-loop
+add-p c = search needs
 
-add-zero-two-2 : tie.Need-add-zero-two-2 Inv-loop μ-loop
-add-zero-two-2 c = search needs
+add-p-2 : tie.Need-add-p-2 Inv-loop μ-loop
+add-p-2 c = search needs
 
-zero-two-requires : tie.Need-zero-two-requires Inv-loop μ-loop
-zero-two-requires c κs = search needs
+word-at-requires : tie.Need-word-at-requires Inv-loop μ-loop
+word-at-requires c κs = search needs
 
-both-requires : tie.Need-both-requires Inv-loop μ-loop
-both-requires c κs = search needs
+add-word-at : tie.Need-add-word-at Inv-loop μ-loop
+add-word-at c = search needs
+
+word-at-requires-2 : tie.Need-word-at-requires-2 Inv-loop μ-loop
+word-at-requires-2 c κs = search needs
 
 add-i : tie.Need-add-i Inv-loop μ-loop
 add-i c = search needs
@@ -46,7 +53,18 @@ loop-again : tie.Need-loop-again Inv-loop μ-loop
 unfolding spareZero
 loop-again c =
     let l = c .before .before .before in
-    (omega arith, rw (c .both .ensures, c .before .zero-two .ensures, l .loop .inv .1, add-one (l .loop .i)))
+    let a = l .before .before .args in
+    let p = a .at + 44 * l .loop .i + 36 in (
+      omega arith,
+      rw (
+        c .word-at2 .ensures,
+        c .before .word-at .ensures,
+        or-none (l .loop .all) (bitOr (wordAt (a .s .now) p) (wordAt (a .s .now) (p + 4))),
+        zero-two (a .s .now) p (omega arith),
+        l .loop .inv .1,
+        add-one (l .loop .i),
+      ),
+    )
 
 returns : tie.Need-returns Inv-loop μ-loop
 returns c =
@@ -61,11 +79,12 @@ spare-zero-spec =
     Inv-loop
     μ-loop
     loop-holds
-    mul-zero-two
-    add-zero-two
-    add-zero-two-2
-    zero-two-requires
-    both-requires
+    mul-p
+    add-p
+    add-p-2
+    word-at-requires
+    add-word-at
+    word-at-requires-2
     add-i
     loop-less
     loop-again
