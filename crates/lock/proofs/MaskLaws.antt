@@ -76,6 +76,11 @@ module _ (p : Entry → Bool) (k : Kind) where
       (λ (l : 0 < n - r). bit-past n r (passes n) (λ e. omega (arith, e, l)) ∙ rows-bit n r (omega (arith, l)))
       (eq-zero-or-pos (n - r))
 
+-- The mask of those with entry N has the bit of each method whose entry is.
+pub never-bit : (r m : ℕ) → r < 7 → hasBit (neverMask m) r ≡ isNever (entryBy (kindAt diskTable r) (kindAt diskTable m))
+unfolding neverMask
+never-bit r m h = rows-bit isNever (kindAt diskTable m) 7 r h
+
 -- ---- the methods of claims
 
 module _ (m : ℕ) (h : m < 7) where

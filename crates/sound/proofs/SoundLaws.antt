@@ -9,6 +9,7 @@ use borrow.Author.Tests.{ltb-true, leb-false, leb-true, eqb-true, lt-ltb, le-leb
 use lib.Dec.{leb, ltb}
 use lib.ListN.{length}
 use Rattle.num.specs.Metric.{size}
+use Rattle.law.specs.declared.Attr.{Attr}
 use Rattle.law.specs.declared.Claim.{Claim}
 use Rattle.law.specs.Base.{allTrue, everyOf}
 use Rattle.law.specs.Lists.{All, never-true, all-say, all-both, all-true, all-append, all-left, all-right, and-left, and-right, Passed, passed, all-passed, every-tests, sum-zero}
@@ -22,7 +23,7 @@ use Rattle.law.specs.DiskType.{diskTable}
 use Rattle.law.specs.TableLaws.{disk-methods}
 use Rattle.lock.specs.Pairs.{addOf}
 use Rattle.lock.proofs.EntryLaws.{each-kind}
-use Rattle.sound.specs.Tests.{figureTests, figureFits, figuresTests, figuresFit, claimTests, claimFits, toldTests, toldFits, activeTests, activeFits, waitingTests, waitingFits, eachActive, sumTest, waitingsFit, codeTests}
+use Rattle.sound.specs.Tests.{figureTests, figureFits, figuresTests, figuresFit, claimTests, claimFits, toldTests, toldFits, activeTests, activeFits, waitingTests, waitingFits, eachActive, activesTests, waitingsFit, codeTests}
 use Rattle.sound.proofs.WalkLaws.{same-test, says-all}
 
 -- ---- the three attributes
@@ -163,6 +164,18 @@ methods-there d h =
     all-say (λ c. fit c ≡ true) (λ c. c .method < 7) (method-there (d .core .figures) (d .core .clock) (d .next)) (d .core .active)
     (says-all fit (d .core .active) .0 h)
 
+-- ---- limits
+
+-- The limits of used and promised, read from figures that fit, are in range.
+pub limits-there : (f : Figures) (now next : ℕ) {used promised : Attr} → used ≡ f .f0 → promised ≡ f .f1 →
+    figuresFit f now next ≡ true → (used .limit ≤ 2_000_000_000) × (promised .limit ≤ 2_000_000_000)
+unfolding figuresFit figureFits
+limits-there f now next u p h =
+    let t = passed (figuresTests f now next) h in (
+      rw u (leb-true (f .f0 .limit) 2_000_000_000 (passed (figureTests a0 now (f .f0)) (t .1 .1 .0) .1 .0)),
+      rw p (leb-true (f .f1 .limit) 2_000_000_000 (passed (figureTests a1 now (f .f1)) (t .1 .1 .1 .0) .1 .0)),
+    )
+
 -- ---- the whole
 
 module _ (d : Disk) (few : length (d .core .active) ≤ places) (few-waiting : length (d .waiting) ≤ places) where
@@ -228,14 +241,14 @@ module _ (d : Disk) (few : length (d .core .active) ≤ places) (few-waiting : l
     unfolding figureFits
     state = passed (figureTests a2 now (f .f2)) (figures .1 .1 .1 .1 .0)
 
-    actives : Passed (eachActive d ∷ sumTest d ∷ [])
-    actives = passed (eachActive d ∷ sumTest d ∷ []) (h .1 .0)
+    actives : Passed (activesTests d)
+    actives = passed (activesTests d) (h .1 .0)
 
     walked : All Active ws
     walked = says-all (activeFits f now (d .next)) ws .0 (actives .0)
 
     waited : All Waiting vs
-    waited = says-all (waitingFits f now (d .next)) vs .0 (h .1 .1 .1 .0)
+    waited = says-all (waitingFits f now (d .next)) vs .0 (h .1 .1 .0)
 
     lawful : All (Lawful f now (d .next)) (claimsOn d)
     lawful =
@@ -253,7 +266,7 @@ module _ (d : Disk) (few : length (d .core .active) ≤ places) (few-waiting : l
 
     sum-promised : sumsTest a1 ≡ true
     unfolding addOf
-    sum-promised = actives .1 .0
+    sum-promised = actives .1 .1 .0
 
     code-sound : sound diskTable d ≡ true
     unfolding sound soundTests
@@ -271,14 +284,14 @@ module _ (d : Disk) (few : length (d .core .active) ≤ places) (few-waiting : l
         and figures .1 .0
         and le-leb (length ws) places few
         and le-leb (length vs) places few-waiting
-        and h .1 .1 .1 .1 .1 .0
+        and h .1 .1 .1 .1 .0
         and on-all (λ c. leb 1 (c .ticket)) (λ c l. l .first)
         and on-all (λ c. ltb (c .ticket) (d .next)) (λ c l. l .below)
         and on-all (passes diskTable f now) (λ c l. l .passing)
         and every-tests (λ c. readingBy (kindOf diskTable c) c) Active (λ c e. active-told f now (d .next) c e .1 .0) ws walked
         and each sumsTest sum-used sum-promised refl
-        and h .1 .1 .0
-        and h .1 .1 .1 .1 .0
+        and actives .1 .0
+        and h .1 .1 .1 .0
         and tt)
 
   -- What the law tests gives what the code tests.
@@ -333,8 +346,7 @@ module _ (d : Disk) (few : length (d .core .active) ≤ places) (few-waiting : l
       let x = w .1 .1 .1 .1 in
       let l = all-lawful (u .1 .1 .0 and u .1 .1 .1 .1 .1 .0 and w .1 .0 and w .1 .1 .0 and w .1 .1 .1 .0 and tt) in
       law-figures (v .0) (v .1 .0) (u .0) (u .1 .0) (u .1 .1 .1 .0) (u .1 .1 .1 .1 .0)
-      and all-passed (eachActive d ∷ sumTest d ∷ []) (law-actives (t .0) (x .0) l and of-each sumsTest (x .1 .0) .1 and tt)
-      and x .1 .1 .0
+      and all-passed (activesTests d) (law-actives (t .0) (x .0) l and x .1 .1 .0 and of-each sumsTest (x .1 .0) .1 and tt)
       and law-waitings (t .1 .0) l
       and x .1 .1 .1 .0
       and w .0

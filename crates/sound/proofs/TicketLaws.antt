@@ -1,38 +1,46 @@
 -- Laws of the tickets' mask: where no bit is met twice, no ticket is.
-use Prim.Native.Nat.{ℕ, _+_, _%_, _^_, _<_, _≤_}
-use mathlib.Core.Bool.{Bool, true, false, not, _&&_}
+use Prim.Native.Nat.{ℕ, _%_, _^_}
+use mathlib.Core.Bool.{Bool, true, false, not}
 use mathlib.Core.List.{List, [], _∷_}
 use mathlib.Core.Path.{_≡_, refl, sym, ap, _∙_}
 use borrow.Author.Tests.{eqb-true, not-true}
-use lib.Bits.{bitOr}
+use lib.Bits.{bitAnd, bitOr, or-zero-l}
 use lib.Dec.{eqb}
-use lib.ListN.{length, drop, getD}
-use Rattle.num.specs.Bits.{hasBit, bit-set, bit-set-other}
+use Rattle.num.specs.Bits.{hasBit, bit-set, bit-set-other, apart-bits, or-none}
 use Rattle.law.specs.declared.Claim.{Claim}
 use Rattle.law.specs.Base.{everyPair}
 use Rattle.law.specs.Lists.{All, Pairs, all-say, never-true, and-left, and-right}
-use Rattle.claims.specs.Rows.{noClaim}
 use Rattle.sound.specs.Tests.{apart}
-use Rattle.sound.proofs.WalkLaws.{rest-on, rest-end, says-two-by-two}
+use Rattle.sound.specs.Seen.{bitOf, free}
+use Rattle.sound.proofs.WalkLaws.{says-two-by-two}
 
--- The bit of a claim's ticket: its last six.
-abbrev pub bitOf : Claim → ℕ
-bitOf c = c .ticket % 64
+-- A mask that shares nothing with a power of 2 has not its bit.
+pub bit-unmet : (mask a : ℕ) → bitAnd mask (2 ^ a) ≡ 0 → hasBit mask a ≡ false
+bit-unmet mask a h = go (hasBit mask a) refl
+  where
+    own : hasBit (2 ^ a) a ≡ true
+    own = ap (λ (x : ℕ). hasBit x a) (sym (or-zero-l (2 ^ a))) ∙ bit-set 0 a
 
--- The claims meet no bit of a mask, in which each sets its own.
-unfoldable pub free : ℕ → List Claim → Bool
-free mask [] = true
-free mask (c ∷ cs) = not (hasBit mask (bitOf c)) && free (bitOr mask (2 ^ bitOf c)) cs
+    go : (b : Bool) → hasBit mask a ≡ b → b ≡ false
+    go true e = sym own ∙ apart-bits mask (2 ^ a) a h e
+    go false e = refl
 
-module _ (mask : ℕ) (xs : List Claim) (i : ℕ) where
-  pub free-on : i < length xs → hasBit mask (bitOf (getD xs i noClaim)) ≡ false →
-      free (bitOr mask (2 ^ bitOf (getD xs i noClaim))) (drop (i + 1) xs) ≡ free mask (drop i xs)
+-- A turn: where nothing has been met again with the claim x, nothing had been, and the mask with x's bit says of the rest what
+-- the mask said of x and the rest.
+module _ (mask again bit : ℕ) {xs rest : List Claim} {x : Claim} (e : xs ≡ x ∷ rest) (w : bit ≡ 2 ^ bitOf x)
+    (h : bitOr again (bitAnd mask bit) ≡ 0) where
+  pub none-before : again ≡ 0
+  none-before = or-none again (bitAnd mask bit) h .0
+
+  pub free-on : free (bitOr mask bit) rest ≡ free mask xs
   unfolding free
-  free-on h e = rw (rest-on xs i h, e)
+  free-on =
+      let unmet : bitAnd mask (2 ^ bitOf x) ≡ 0 = ap (bitAnd mask) (sym w) ∙ or-none again (bitAnd mask bit) h .1 in
+      rw (e, w, bit-unmet mask (bitOf x) unmet)
 
-  pub free-end : length xs ≤ i → true ≡ free mask (drop i xs)
-  unfolding free
-  free-end h = rw (rest-end xs i h)
+pub free-end : (mask : ℕ) {xs : List Claim} → xs ≡ [] → free mask xs ≡ true
+unfolding free
+free-end mask e = rw e
 
 -- A bit that is not set beside that of c is not c's, and was not set before.
 module _ (mask : ℕ) (c x : Claim) (h : hasBit (bitOr mask (2 ^ bitOf c)) (bitOf x) ≡ false) where

@@ -88,15 +88,24 @@ meets x y = not (isNever (entry diskTable x y))
 
 -- ---- the claims of a disk
 
--- Each active claim by itself; then |promised| with the |d| of the active adds.
+-- Each active claim by itself, and with each behind it; then |promised| with the |d| of the active adds.
 abbrev pub eachActive : LawDisk → Bool
 eachActive d = everyOf (activeFits (d .core .figures) (d .core .clock) (d .next)) (d .core .active)
+
+abbrev pub everyMeets : LawDisk → Bool
+everyMeets d = everyPair meets (d .core .active)
 
 abbrev pub sumTest : LawDisk → Bool
 sumTest d = leb (size (attr (d .core .figures) a1 .value) + sumOf addOf (d .core .active)) mostValue
 
+abbrev pub activesFront : LawDisk → List Bool
+activesFront d = eachActive d ∷ everyMeets d ∷ []
+
+abbrev pub activesTests : LawDisk → List Bool
+activesTests d = activesFront d ++ (sumTest d ∷ [])
+
 abbrev pub activesFit : LawDisk → Bool
-activesFit d = allTrue (eachActive d ∷ sumTest d ∷ [])
+activesFit d = allTrue (activesTests d)
 
 -- Each waiting claim by itself.
 abbrev pub waitingsFit : LawDisk → Bool
@@ -113,7 +122,6 @@ abbrev pub codeFront : LawDisk → List Bool
 codeFront d =
     figuresFit (d .core .figures) (d .core .clock) (d .next)
     ∷ activesFit d
-    ∷ everyPair meets (d .core .active)
     ∷ waitingsFit d
     ∷ everyPair before (d .waiting)
     ∷ []

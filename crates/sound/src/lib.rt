@@ -1,5 +1,5 @@
 // The soundness test in code: whether the disk of a part, whatever numbers it holds, is sound as 01 has it. Nothing
-// is indexed or summed up before it is in range: a method that there is not has the table's first index.
+// is indexed or summed up before it is in range.
 
 mod active;
 mod alone;
@@ -8,42 +8,70 @@ mod pairs;
 mod tickets;
 mod waiting;
 
-ghost use mathlib.Core.Bool.{true};
+ghost use mathlib.Core.Bool.{true, false};
 ghost use mathlib.Core.Path.{_≡_};
 ghost use lib.ListN.{length};
 ghost use Rattle.law.specs.Sound.{sound};
 ghost use Rattle.law.specs.DiskType.{diskTable};
 ghost use Rattle.rules.specs.Disks.{diskOf};
 ghost use Rattle.part.specs.Layout.{decode, decodes};
+ghost use Rattle.sound.specs.Seen.{SeenIs};
 use crate::active::actives_fit;
-use crate::active::actives_meet;
 use crate::figures::figures_hold;
-use crate::tickets::tickets_differ;
+use crate::tickets::apart;
 use crate::waiting::in_order;
 use crate::waiting::waitings_fit;
 
+// What the soundness test has seen: whether the disk is sound, and if so, for the decision, the sum of |d| over the active
+// adds and the methods of the active claims.
+pub struct Seen {
+    pub ok: bool,
+    pub adds: u64,
+    pub methods: u64,
+}
+
 // Whether the disk of a part that decodes is sound: the figures; the active claims, each by itself and with each behind
-// it; the waiting ones, each by itself and in the pass's order; the tickets of all. The claims are read where they stand:
-// a disk by value would be copied.
-pub fn is_sound(s: &[u8]) -> bool
+// it; the waiting ones, each by itself and in the pass's order; the tickets of all, which are compared two by two only where
+// their last six bits fall together. The claims are read where they stand: a disk by value would be copied.
+pub fn is_sound(s: &[u8]) -> Seen
     requires { ⌜ length (now s) ≡ 768 ⌝ }
     requires { ⌜ decodes (now s) ≡ true ⌝ }
-    ensures { λ r. ⌜ r ≡ sound diskTable (diskOf (decode (now (s .entry)))) ⌝ }
+    ensures { λ r. ⌜ r .ok ≡ sound diskTable (diskOf (decode (now (s .entry)))) ⌝ }
+    ensures { λ r. ⌜ (r .ok ≡ true → SeenIs (r .adds) (r .methods) (diskOf (decode (now (s .entry))))) ⌝ }
 {
     if !figures_hold(s) {
-        return false;
+        return unsound();
     }
-    if !actives_fit(s) {
-        return false;
+    let a = actives_fit(s);
+    if !a.ok {
+        return unsound();
     }
-    if !actives_meet(s) {
-        return false;
-    }
-    if !waitings_fit(s) {
-        return false;
+    let w = waitings_fit(s, a.tickets, a.again);
+    if !w.ok {
+        return unsound();
     }
     if !in_order(s) {
-        return false;
+        return unsound();
     }
-    tickets_differ(s)
+    if w.again != 0 {
+        if !apart(s) {
+            return unsound();
+        }
+    }
+    Seen {
+        ok: true,
+        adds: a.adds,
+        methods: a.methods,
+    }
+}
+
+// A test has failed: nothing is handed on.
+fn unsound() -> Seen
+    ensures { λ r. ⌜ r .ok ≡ false ⌝ }
+{
+    Seen {
+        ok: false,
+        adds: 0,
+        methods: 0,
+    }
 }

@@ -1,12 +1,9 @@
-// The tickets of all claims of a part: a mask of their last six bits tells them apart; where two fall together in it, they
-// are compared two by two.
+// The tickets of all claims of a part, two by two.
 
 ghost use mathlib.Core.Bool.{true};
 ghost use mathlib.Core.Path.{_≡_};
-ghost use Prim.Native.Nat.{_+_, _%_, _^_, _<_};
-ghost use lib.Bits.{bitOr};
+ghost use Prim.Native.Nat.{_+_, _<_};
 ghost use lib.ListN.{length, getD};
-ghost use Rattle.num.specs.Bits.{hasBit};
 ghost use Rattle.law.specs.Sound.{claimsOn};
 ghost use Rattle.claims.specs.Rows.{noClaim};
 ghost use Rattle.rules.specs.Disks.{diskOf};
@@ -18,37 +15,7 @@ use part::read::active_at;
 use part::read::waiting_at;
 
 // No two claims have the same ticket.
-pub fn tickets_differ(s: &[u8]) -> bool
-    requires { ⌜ length (now s) ≡ 768 ⌝ }
-    requires { ⌜ decodes (now s) ≡ true ⌝ }
-    ensures { λ r. ⌜ r ≡ ticketsDiffer (diskOf (decode (now (s .entry)))) ⌝ }
-{
-    let n = word_at(s, 8) as usize;
-    let m = word_at(s, 12) as usize;
-    let mut mask: u64 = 0;
-    let mut i: usize = 0;
-    while i < n {
-        let x = active_at(s, i);
-        if met(mask, x.ticket) {
-            return apart(s);
-        }
-        mask = with_bit(mask, x.ticket);
-        i += 1;
-    }
-    let mut k: usize = 0;
-    while k < m {
-        let w = waiting_at(s, k);
-        if met(mask, w.ticket) {
-            return apart(s);
-        }
-        mask = with_bit(mask, w.ticket);
-        k += 1;
-    }
-    true
-}
-
-// The same, two by two.
-fn apart(s: &[u8]) -> bool
+pub fn apart(s: &[u8]) -> bool
     requires { ⌜ length (now s) ≡ 768 ⌝ }
     requires { ⌜ decodes (now s) ≡ true ⌝ }
     ensures { λ r. ⌜ r ≡ ticketsDiffer (diskOf (decode (now (s .entry)))) ⌝ }
@@ -83,17 +50,4 @@ fn claim_on(s: &[u8], n: usize, i: usize) -> Claim
         return active_at(s, i);
     }
     waiting_at(s, i - n)
-}
-
-// Whether the bit of a ticket's last six is in a mask; and the mask with it.
-fn met(mask: u64, ticket: u32) -> bool
-    ensures { λ r. ⌜ r ≡ hasBit mask (ticket % 64) ⌝ }
-{
-    (mask >> (ticket % 64)) & 1 == 1
-}
-
-fn with_bit(mask: u64, ticket: u32) -> u64
-    ensures { λ r. ⌜ r ≡ bitOr mask (2 ^ (ticket % 64)) ⌝ }
-{
-    mask | 1 << (ticket % 64)
 }

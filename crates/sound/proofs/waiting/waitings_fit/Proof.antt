@@ -1,20 +1,25 @@
--- The claims before i have passed, and those from i on decide.
+-- The claims before i have passed, and those from i on decide; the mask with what is left from i on says what the mask handed
+-- in says of them all.
 use borrow.Author.Needs.{needs}
-use Prim.Native.Nat.{ℕ, _-_}
+use Prim.Native.Nat.{ℕ, _+_, _-_, _<_, _≤_}
 use mathlib.Core.Bool.{Bool, true}
-use mathlib.Core.List.{List}
-use mathlib.Core.Path.{_≡_, refl, sym, _∙_}
+use mathlib.Core.List.{List, _∷_}
+use mathlib.Core.Path.{_≡_, refl, sym, ap, _∙_}
 use native.Mathlib.Omega.{arith}
 use borrow.Author.Tests.{not-true, not-false}
-use lib.ListN.{length, drop}
+use lib.ListN.{length, drop, getD}
 use Rattle.law.specs.declared.Claim.{Claim}
 use Rattle.law.specs.Base.{everyOf}
+use Rattle.law.specs.Lists.{never-true}
 use Rattle.lock.specs.Methods.{figuresOf}
 use Rattle.rules.specs.Disks.{figuresIn}
 use Rattle.part.specs.Layout.{decode, decodes}
-use Rattle.claims.specs.RowLaws.{every-on, every-not, every-end}
+use Rattle.claims.specs.Rows.{Row, noClaim}
+use Rattle.claims.specs.RowLaws.{left-on, left-end, every-on, every-not, every-end}
 use Rattle.sound.specs.Tests.{waitingFits}
+use Rattle.sound.specs.Seen.{free}
 use Rattle.sound.proofs.WalkLaws.{there}
+use Rattle.sound.proofs.TicketLaws.{none-before, free-on, free-end}
 use Rattle.sound.proofs.DiskLaws.{waitings, clock-read, next-read, waitings-read, good}
 use Rattle.sound.proofs.waiting.waitings_fit.Statement.{statement}
 use Rattle.sound.proofs.waiting.waitings_fit.Tie as tie
@@ -22,12 +27,17 @@ use Rattle.sound.proofs.waiting.waitings_fit.Tie as tie
 abbrev fit : List ℕ → Claim → Bool
 fit s = waitingFits (figuresIn (decode s)) (decode s .clock) (decode s .next)
 
+-- The waiting claims from i on.
+abbrev left : List ℕ → ℕ → List Claim
+left s i = drop i (waitings (decode s))
+
 abbrev Inv : tie.InvT-loop
-Inv s clock next m used promised state i₀ i =
-    everyOf (fit s) (drop i (waitings (decode s))) ≡ everyOf (fit s) (waitings (decode s))
+Inv s tickets again clock next m used promised state mask₀ met₀ i₀ mask met i =
+    (everyOf (fit s) (left s i) ≡ everyOf (fit s) (waitings (decode s)))
+    × (met ≡ 0 → (again ≡ 0) × (free mask (left s i) ≡ free tickets (waitings (decode s))))
 
 abbrev μ : tie.MeasureT-loop
-μ s clock next m used promised state i₀ i = m - i
+μ s tickets again clock next m used promised state mask₀ met₀ i₀ mask met i = m - i
 
 -- The place where the figures are read, and the part there.
 abbrev Read : Type 0
@@ -40,10 +50,13 @@ long : (k : Read) → length (part k) ≡ 768
 long k = k .before .before .before .before .before .before .before .pre .0
 
 sane : (k : Read) → decodes (part k) ≡ true
-sane k = k .before .before .before .before .before .before .before .pre .1
+sane k = k .before .before .before .before .before .before .before .pre .1 .0
 
 count : (k : Read) → k .before .before .before .word-at3 .result ≡ decode (part k) .waitings
 count k = k .before .before .before .word-at3 .ensures ∙ waitings-read (part k)
+
+row : (k : Read) → Row (decode (part k) .waiting) (decode (part k) .waitings)
+row k = good (part k) (long k) (sane k) .waiting
 
 -- The test of a claim with the figures read is that with the disk's.
 fits : (k : Read) (x : Claim) →
@@ -56,6 +69,11 @@ fits k x i =
     (figuresOf (k .before .before .used-at .ensures i) (k .before .promised-at .ensures i) (k .code-at .ensures i))
     ((k .before .before .before .before .before .word-at .ensures ∙ clock-read (part k)) i)
     ((k .before .before .before .before .word-at2 .ensures ∙ next-read (part k)) i) x
+
+-- A turn: the claim read at i, and those behind it.
+turn : (k : Read) (i : ℕ) (x : Claim) → i < k .before .before .before .word-at3 .result →
+    x ≡ getD (decode (part k) .waiting) i noClaim → left (part k) i ≡ x ∷ left (part k) (i + 1)
+turn k i x h e = left-on (row k) i (omega (arith, h, count k)) ∙ ap (λ (y : Claim). y ∷ left (part k) (i + 1)) (sym e)
 
 word-at-requires : tie.Need-word-at-requires Inv μ
 word-at-requires c κs = search needs
@@ -79,12 +97,12 @@ code-at-requires : tie.Need-code-at-requires Inv μ
 code-at-requires c κs = search needs
 
 loop-holds : tie.Need-loop-holds Inv μ
-loop-holds c = refl
+loop-holds c = (refl, λ h. (h, refl))
 
 waiting-at-requires : tie.Need-waiting-at-requires Inv μ
 waiting-at-requires c κs =
     let k = c .before .before in
-    (long k, omega (arith, c .loop-test .taken, count k, good (part k) (long k) (sane k) .waiting .few))
+    (long k, omega (arith, c .loop-test .taken, count k, row k .few))
 
 waiting-fits-requires : tie.Need-waiting-fits-requires Inv μ
 waiting-fits-requires c κs = tt
@@ -94,38 +112,55 @@ returns c =
     let t = c .before .before .before in
     let l = t .before in
     let k = l .before in
-    let s = part k in
-    every-not (good s (long k) (sane k) .waiting) (fit s) (l .loop .i) (omega (arith, t .loop-test .taken, count k))
-    (there (fit s) (c .before .before .waiting-at .ensures)
-    (sym (c .before .waiting-fits .ensures ∙ fits k _) ∙ not-true _ (c .if1 .taken)))
-    ∙ l .loop .inv
+    let s = part k in (
+      every-not (row k) (fit s) (l .loop .i) (omega (arith, t .loop-test .taken, count k))
+          (there (fit s) (c .before .before .waiting-at .ensures)
+          (sym (c .before .waiting-fits .ensures ∙ fits k _) ∙ not-true _ (c .if1 .taken)))
+          ∙ l .loop .inv .0,
+      λ h. never-true _ h,
+    )
+
+bit-of-requires : tie.Need-bit-of-requires Inv μ
+bit-of-requires c κs = tt
 
 add-i : tie.Need-add-i Inv μ
 add-i c =
-    let t = c .before .before .before in
+    let t = c .before .before .before .before in
     let k = t .before .before in
-    record { fits = omega (arith, t .loop-test .taken, count k, good (part k) (long k) (sane k) .waiting .few) }
+    record { fits = omega (arith, t .loop-test .taken, count k, row k .few) }
 
 loop-less : tie.Need-loop-less Inv μ
-loop-less c = omega (arith, c .before .before .before .loop-test .taken)
+loop-less c = omega (arith, c .before .before .before .before .loop-test .taken)
 
 loop-again : tie.Need-loop-again Inv μ
 loop-again c =
-    let t = c .before .before .before in
+    let a = c .before .before .before in
+    let t = a .before in
     let l = t .before in
     let k = l .before in
     let s = part k in
-    every-on (good s (long k) (sane k) .waiting) (fit s) (l .loop .i) (omega (arith, t .loop-test .taken, count k))
-    (there (fit s) (c .before .before .waiting-at .ensures)
-    (sym (c .before .waiting-fits .ensures ∙ fits k _) ∙ not-false _ (c .if1 .left)))
-    ∙ l .loop .inv
+    let i = l .loop .i in
+    let e = a .waiting-at .ensures in
+    let m = turn k i (a .waiting-at .result) (t .loop-test .taken) e in (
+      every-on (row k) (fit s) i (omega (arith, t .loop-test .taken, count k))
+          (there (fit s) e (sym (c .before .before .waiting-fits .ensures ∙ fits k _) ∙ not-false _ (c .before .if1 .left)))
+          ∙ l .loop .inv .0,
+      λ h.
+          let z = l .loop .inv .1 (none-before (l .loop .mask) (l .loop .met) (c .bit-of .result) m (c .bit-of .ensures) h) in
+          (z .0, free-on (l .loop .mask) (l .loop .met) (c .bit-of .result) m (c .bit-of .ensures) h ∙ z .1),
+    )
 
 returns-2 : tie.Need-returns-2 Inv μ
 returns-2 c =
     let l = c .before in
     let k = l .before in
     let s = part k in
-    every-end (good s (long k) (sane k) .waiting) (fit s) (l .loop .i) (omega (arith, c .loop-test .left, count k)) ∙ l .loop .inv
+    let end : decode s .waitings ≤ l .loop .i = omega (arith, c .loop-test .left, count k) in (
+      every-end (row k) (fit s) (l .loop .i) end ∙ l .loop .inv .0,
+      λ h e.
+          let z = l .loop .inv .1 e in
+          (z .0, sym (z .1) ∙ free-end (l .loop .mask) (left-end (row k) (l .loop .i) end)),
+    )
 
 pub waitings-fit-spec : {M : Type 1} → statement M
 waitings-fit-spec =
@@ -144,6 +179,7 @@ waitings-fit-spec =
     waiting-at-requires
     waiting-fits-requires
     returns
+    bit-of-requires
     add-i
     loop-less
     loop-again
