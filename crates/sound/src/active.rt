@@ -4,9 +4,9 @@ ghost use mathlib.Core.Bool.{true};
 ghost use mathlib.Core.Path.{_≡_};
 ghost use lib.ListN.{length};
 ghost use Rattle.law.specs.Base.{everyPair};
-ghost use Rattle.rules.specs.Disks.{diskOf};
+ghost use Rattle.rules.specs.Disks.{figuresIn, diskOf};
 ghost use Rattle.part.specs.Layout.{decode, decodes};
-ghost use Rattle.sound.specs.Tests.{eachActive, activesFit, meets as lawMeets};
+ghost use Rattle.sound.specs.Tests.{figuresFit, eachActive, activesFit, meets as lawMeets};
 use crate::alone::active_fits;
 use crate::pairs::meets;
 use lock::method::TABLE;
@@ -24,6 +24,7 @@ const MOST_VALUE: u32 = 1000000000;
 pub fn actives_fit(s: &[u8]) -> bool
     requires { ⌜ length (now s) ≡ 768 ⌝ }
     requires { ⌜ decodes (now s) ≡ true ⌝ }
+    requires { ⌜ figuresFit (figuresIn (decode (now s))) (decode (now s) .clock) (decode (now s) .next) ≡ true ⌝ }
     ensures { λ r. ⌜ r ≡ activesFit (diskOf (decode (now (s .entry)))) ⌝ }
 {
     let clock = word_at(s, 0);

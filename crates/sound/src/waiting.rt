@@ -5,9 +5,9 @@ ghost use mathlib.Core.Path.{_≡_};
 ghost use lib.ListN.{length};
 ghost use Rattle.law.specs.Base.{everyPair};
 ghost use Rattle.law.specs.Calls.{before as lawBefore};
-ghost use Rattle.rules.specs.Disks.{diskOf};
+ghost use Rattle.rules.specs.Disks.{figuresIn, diskOf};
 ghost use Rattle.part.specs.Layout.{decode, decodes};
-ghost use Rattle.sound.specs.Tests.{waitingsFit};
+ghost use Rattle.sound.specs.Tests.{figuresFit, waitingsFit};
 use crate::alone::waiting_fits;
 use claims::before;
 use num::word::word_at;
@@ -20,6 +20,7 @@ use part::read::waiting_at;
 pub fn waitings_fit(s: &[u8]) -> bool
     requires { ⌜ length (now s) ≡ 768 ⌝ }
     requires { ⌜ decodes (now s) ≡ true ⌝ }
+    requires { ⌜ figuresFit (figuresIn (decode (now s))) (decode (now s) .clock) (decode (now s) .next) ≡ true ⌝ }
     ensures { λ r. ⌜ r ≡ waitingsFit (diskOf (decode (now (s .entry)))) ⌝ }
 {
     let clock = word_at(s, 0);

@@ -41,7 +41,9 @@ returns : tie.Need-returns
 returns c = wrong (c .before .before .before) 0 (failed (c .before .figures-hold .ensures) (c .if1 .taken))
 
 actives-fit-requires : tie.Need-actives-fit-requires
-actives-fit-requires c κs = search needs
+actives-fit-requires c κs =
+    let k = c .before .before .before in
+    (k .pre .0, (k .pre .1, went (c .before .figures-hold .ensures) (c .if1 .left)))
 
 returns-2 : tie.Need-returns-2
 returns-2 c = wrong (c .before .before .before .before .before) 1 (failed (c .before .actives-fit .ensures) (c .if2 .taken))
@@ -56,7 +58,10 @@ returns-3 : tie.Need-returns-3
 returns-3 c = wrong (c .before .before .before .before .before .before .before) 2 (failed (c .before .actives-meet .ensures) (c .if3 .taken))
 
 waitings-fit-requires : tie.Need-waitings-fit-requires
-waitings-fit-requires c κs = search needs
+waitings-fit-requires c κs =
+    let h = c .before .before .before .before in
+    let k = h .before .before .before in
+    (k .pre .0, (k .pre .1, went (h .before .figures-hold .ensures) (h .if1 .left)))
 
 returns-4 : tie.Need-returns-4
 returns-4 c = wrong (c .before .before .before .before .before .before .before .before .before) 3 (failed (c .before .waitings-fit .ensures) (c .if4 .taken))

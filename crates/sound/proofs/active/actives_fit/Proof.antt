@@ -22,6 +22,7 @@ use mir.Facts.{toZ-ofZ}
 use Rattle.sound.specs.Tests.{activeFits, eachActive, sumTest}
 use Rattle.sound.proofs.TestLaws.{test-fails, test-last}
 use Rattle.sound.proofs.WalkLaws.{there}
+use Rattle.sound.proofs.AloneLaws.{limits}
 use Rattle.sound.proofs.DiskLaws.{actives, clock-read, next-read, actives-read, good}
 use Rattle.sound.proofs.active.actives_fit.Statement.{statement}
 use Rattle.sound.proofs.active.actives_fit.Tie as tie
@@ -50,7 +51,7 @@ long : (k : Read) → length (part k) ≡ 768
 long k = k .before .before .before .before .before .before .before .pre .0
 
 sane : (k : Read) → decodes (part k) ≡ true
-sane k = k .before .before .before .before .before .before .before .pre .1
+sane k = k .before .before .before .before .before .before .before .pre .1 .0
 
 count : (k : Read) → k .before .before .before .word-at3 .result ≡ decode (part k) .actives
 count k = k .before .before .before .word-at3 .ensures ∙ actives-read (part k)
@@ -97,7 +98,12 @@ active-at-requires c κs =
     (long k, omega (arith, c .loop-test .taken, count k, good (part k) (long k) (sane k) .active .few))
 
 active-fits-requires : tie.Need-active-fits-requires Inv μ
-active-fits-requires c κs = tt
+active-fits-requires c κs =
+    let k = c .before .before .before in
+    let l = limits (figuresIn (decode (part k))) _ _ (k .before .before .before .before .before .before .before .pre .1 .1) in
+    let used = k .before .before .used-at .ensures in
+    let promised = k .before .promised-at .ensures in
+    (rw used (l .0), (rw promised (l .1), rw (k .code-at .ensures) (l .2)))
 
 returns : tie.Need-returns Inv μ
 returns c =

@@ -15,6 +15,7 @@ use Rattle.part.specs.Layout.{decode, decodes}
 use Rattle.claims.specs.RowLaws.{every-on, every-not, every-end}
 use Rattle.sound.specs.Tests.{waitingFits}
 use Rattle.sound.proofs.WalkLaws.{there}
+use Rattle.sound.proofs.AloneLaws.{limits}
 use Rattle.sound.proofs.DiskLaws.{waitings, clock-read, next-read, waitings-read, good}
 use Rattle.sound.proofs.waiting.waitings_fit.Statement.{statement}
 use Rattle.sound.proofs.waiting.waitings_fit.Tie as tie
@@ -40,7 +41,7 @@ long : (k : Read) → length (part k) ≡ 768
 long k = k .before .before .before .before .before .before .before .pre .0
 
 sane : (k : Read) → decodes (part k) ≡ true
-sane k = k .before .before .before .before .before .before .before .pre .1
+sane k = k .before .before .before .before .before .before .before .pre .1 .0
 
 count : (k : Read) → k .before .before .before .word-at3 .result ≡ decode (part k) .waitings
 count k = k .before .before .before .word-at3 .ensures ∙ waitings-read (part k)
@@ -87,7 +88,12 @@ waiting-at-requires c κs =
     (long k, omega (arith, c .loop-test .taken, count k, good (part k) (long k) (sane k) .waiting .few))
 
 waiting-fits-requires : tie.Need-waiting-fits-requires Inv μ
-waiting-fits-requires c κs = tt
+waiting-fits-requires c κs =
+    let k = c .before .before .before in
+    let l = limits (figuresIn (decode (part k))) _ _ (k .before .before .before .before .before .before .before .pre .1 .1) in
+    let used = k .before .before .used-at .ensures in
+    let promised = k .before .promised-at .ensures in
+    (rw used (l .0), (rw promised (l .1), rw (k .code-at .ensures) (l .2)))
 
 returns : tie.Need-returns Inv μ
 returns c =
