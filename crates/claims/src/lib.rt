@@ -1,6 +1,8 @@
 // A list of at most eight claims: eight places and a count, with every place past the count clear. specs/Rows says what is kept,
 // specs/RowLaws what loops over the places use. Here: what stands in a clear place, and the order of the pass.
 use law::Claim;
+use num::truth::both;
+use num::truth::either;
 ghost use mathlib.Core.Path.{_≡_};
 ghost use Prim.Native.Nat.{_-_, _<_};
 ghost use Rattle.law.specs.Calls.{before};
@@ -27,11 +29,8 @@ pub fn no_claim() -> Claim
 pub fn before(x: Claim, y: Claim) -> bool
     ensures { λ r. ⌜ r ≡ before x y ⌝ }
 {
-    if y.priority < x.priority {
-        return true;
-    }
-    if x.priority == y.priority {
-        return x.ticket < y.ticket;
-    }
-    false
+    either(
+        y.priority < x.priority,
+        both(x.priority == y.priority, x.ticket < y.ticket),
+    )
 }

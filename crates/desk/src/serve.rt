@@ -11,6 +11,7 @@ ghost use Rattle.law.specs.DiskType.{diskTable};
 ghost use Rattle.rules.specs.Answers.{askedOf};
 ghost use Rattle.part.specs.Layout.{decodes};
 ghost use Rattle.part.specs.Held.{held};
+ghost use Rattle.sound.specs.Seen.{SeenIs};
 ghost use Rattle.answer.specs.declared.Answer.the-variants.{Refused};
 ghost use Rattle.answer.specs.Answers.{numberOf, answerBytes};
 ghost use Rattle.desk.specs.Record.{callOf};
@@ -44,15 +45,16 @@ pub fn refuse(answer: &mut [u8], r: Refusal) -> u32
     number(r)
 }
 
-// A claim on a sound part.
-fn serve_claim(part: &mut [u8], q: Asked, answer: &mut [u8]) -> u32
+// A claim on a sound part, with what its active claims come to.
+fn serve_claim(part: &mut [u8], q: Asked, adds: u64, methods: u64, answer: &mut [u8]) -> u32
     requires { ⌜ length (now part) ≡ 768 ⌝ }
     requires { ⌜ decodes (now part) ≡ true ⌝ }
     requires { ⌜ Sound diskTable (held (now part)) ⌝ }
     requires { ⌜ length (now answer) ≡ 144 ⌝ }
+    requires { ⌜ SeenIs adds methods (held (now part)) ⌝ }
     ensures { λ n. ⌜ stepped n (now (part .exit)) (now (answer .exit)) ≡ written (settled (now (part .entry)) (lawClaim diskTable (held (now (part .entry))) (askedOf q))) ⌝ }
 {
-    let j = judged(part, q);
+    let j = judged(part, q, adds, methods);
     let own = j.own;
     if j.refusal != 0 {
         return refuse(answer, refusal_of(j.refusal));
@@ -117,11 +119,12 @@ pub fn serve(part: &mut [u8], r: &[u8], answer: &mut [u8]) -> u32
     if !decodes(part) {
         return refuse(answer, Refusal::Unsound);
     }
-    if !is_sound(part) {
+    let seen = is_sound(part);
+    if !seen.ok {
         return refuse(answer, Refusal::Unsound);
     }
     if r[2] == 2 {
-        return serve_claim(part, asked_in(r), answer);
+        return serve_claim(part, asked_in(r), seen.adds, seen.methods, answer);
     }
     serve_release(part, word_at(r, 8), word_at(r, 12), answer)
 }

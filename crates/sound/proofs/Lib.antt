@@ -1,5 +1,6 @@
 pub mod TestLaws
 pub mod WalkLaws
+pub mod AloneLaws
 pub mod TicketLaws
 pub mod MeetLaws
 pub mod SoundLaws

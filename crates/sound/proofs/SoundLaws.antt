@@ -164,18 +164,6 @@ methods-there d h =
     all-say (λ c. fit c ≡ true) (λ c. c .method < 7) (method-there (d .core .figures) (d .core .clock) (d .next)) (d .core .active)
     (says-all fit (d .core .active) .0 h)
 
--- ---- limits
-
--- The limits of used and promised, read from figures that fit, are in range.
-pub limits-there : (f : Figures) (now next : ℕ) {used promised : Attr} → used ≡ f .f0 → promised ≡ f .f1 →
-    figuresFit f now next ≡ true → (used .limit ≤ 2_000_000_000) × (promised .limit ≤ 2_000_000_000)
-unfolding figuresFit figureFits
-limits-there f now next u p h =
-    let t = passed (figuresTests f now next) h in (
-      rw u (leb-true (f .f0 .limit) 2_000_000_000 (passed (figureTests a0 now (f .f0)) (t .1 .1 .0) .1 .0)),
-      rw p (leb-true (f .f1 .limit) 2_000_000_000 (passed (figureTests a1 now (f .f1)) (t .1 .1 .1 .0) .1 .0)),
-    )
-
 -- ---- the whole
 
 module _ (d : Disk) (few : length (d .core .active) ≤ places) (few-waiting : length (d .waiting) ≤ places) where

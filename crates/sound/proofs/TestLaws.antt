@@ -1,21 +1,20 @@
 -- Laws of the tests in their order: where one fails, all together fail; where all but the last pass, the last decides.
-use Prim.Native.Nat.{ℕ, zero, suc}
+use Prim.Native.Nat.{ℕ, zero, suc, _≤_, _<_}
 use mathlib.Core.Bool.{Bool, true, false, _&&_, and-false}
 use mathlib.Core.List.{List, [], _∷_, _++_}
 use mathlib.Core.Path.{_≡_, refl, sym, ap, _∙_}
+use native.Mathlib.Omega.{arith}
+use borrow.Author.Tests.{le-leb, lt-leb}
 use lib.Dec.{leb}
 use lib.IntN.{ℤ, pos}
 use lib.ListN.{getD}
 use lib.Signed.{ltZ}
 use Rattle.num.specs.Metric.{size}
-use Rattle.law.specs.declared.Claim.{Claim}
 use Rattle.law.specs.Base.{allTrue}
-use Rattle.law.specs.Lists.{Passed, never-true}
-use Rattle.law.specs.Types.{mostError, mostState, a2, Kind, sets, adds, reads}
+use Rattle.law.specs.Lists.{Passed}
+use Rattle.law.specs.Types.{mostState, a2}
 use Rattle.law.specs.Calls.{valueFits}
-use Rattle.law.specs.Sound.{bare, bareBy, readingBy}
 use Rattle.law.specs.DiskType.{diskTable}
-use Rattle.lock.specs.Methods.{isReading}
 use Rattle.lock.proofs.EntryLaws.{last-test}
 use Rattle.rules.proofs.CallLaws.{state-below, state-from}
 
@@ -40,22 +39,10 @@ pub code-from : (z : ℤ) → ltZ z (pos 0) ≡ false → valueFits a2 z ≡ leb
 unfolding diskTable
 code-from z h = sym (state-from 3 z refl h)
 
--- ---- told and amount of an active claim, by its kind
+-- ---- a number against the most that it may be, both as the code has them
 
-module _ (c : Claim) where
-  pub told-far : (k : Kind) → isReading k ≡ true → leb (size (c .told)) mostError ≡ false →
-      false ≡ allTrue (bareBy k c ∷ readingBy k c ∷ [])
-  told-far (sets a) e h = never-true _ e
-  told-far (adds a) e h = never-true _ e
-  told-far (reads m) e h = rw h
+pub above : (n most x y : ℕ) → y ≡ n → x ≡ most → x < y → leb n most ≡ false
+above n most x y p q h = lt-leb n most (omega arith)
 
-  pub told-near : (k : Kind) → isReading k ≡ true → leb (size (c .told)) mostError ≡ true →
-      leb (c .amount) (c .error) ≡ allTrue (bareBy k c ∷ readingBy k c ∷ [])
-  told-near (sets a) e h = never-true _ e
-  told-near (adds a) e h = never-true _ e
-  told-near (reads m) e h = rw h (last-test _ ∙ last-test _)
-
-  pub told-write : (k : Kind) → isReading k ≡ false → bare c ≡ allTrue (bareBy k c ∷ readingBy k c ∷ [])
-  told-write (sets a) e = last-test (bare c)
-  told-write (adds a) e = last-test (bare c)
-  told-write (reads m) e = never-true _ (sym e)
+pub within : (n most x y : ℕ) → y ≡ n → x ≡ most → y ≤ x → leb n most ≡ true
+within n most x y p q h = le-leb n most (omega arith)

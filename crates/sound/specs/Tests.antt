@@ -1,18 +1,21 @@
 -- What the code tests of a disk, in its own order: its figures, its active claims, its waiting ones. The tests of single
 -- claims and attributes are the law's.
 use Prim.Native.Nat.{ℕ, _+_}
-use mathlib.Core.Bool.{Bool, not}
+use mathlib.Core.Bool.{Bool, true, false, cond, not, _&&_}
 use mathlib.Core.List.{List, [], _∷_, _++_}
 use lib.Dec.{leb, ltb, eqb}
+use lib.IntN.{pos}
+use lib.Signed.{ltZ}
 use Rattle.num.specs.Metric.{size}
 use Rattle.law.specs.declared.Attr.{Attr}
 use Rattle.law.specs.declared.Claim.{Claim}
 use Rattle.law.specs.Base.{allTrue, everyOf, everyPair, sumOf}
-use Rattle.law.specs.Types.{mostValue, mostPriority, mostFlag, lastTicket, Attribute, a0, a1, a2, Figures, attr, Disk as LawDisk}
+use Rattle.law.specs.Types.{mostValue, mostError, mostState, mostPriority, mostFlag, lastTicket, Attribute, a0, a1, a2, Kind, sets, adds, reads, Figures, attr, Disk as LawDisk}
 use Rattle.law.specs.Entries.{kindOf, entry, isNever}
 use Rattle.law.specs.Calls.{valueFits, fieldTests, ownFits, before}
 use Rattle.law.specs.Sound.{bare, bareBy, readingBy, limitFits, claimsOn}
 use Rattle.law.specs.DiskType.{diskTable}
+use Rattle.lock.specs.Methods.{isReading}
 use Rattle.lock.specs.Pairs.{addOf}
 
 -- ---- figures
@@ -75,6 +78,65 @@ waitingTests f now next c = passTests f now next c ++ (bare c ∷ [])
 
 unfoldable pub waitingFits : Figures → ℕ → ℕ → Claim → Bool
 waitingFits f now next c = allTrue (waitingTests f now next c)
+
+-- ---- a claim by itself as the code tests it: each field against the most that its kind may have
+
+-- One number of a reading, another of a write.
+abbrev pub ifReading : Kind → ℕ → ℕ → ℕ
+ifReading k reading write = cond (isReading k) reading write
+
+-- How large its value may be; a reading has none.
+abbrev pub mostValueBy : Kind → ℕ
+mostValueBy (sets a0) = mostValue
+mostValueBy (sets a1) = mostValue
+mostValueBy (sets a2) = mostState
+mostValueBy (adds a) = mostValue
+mostValueBy (reads m) = 0
+
+-- It sets the state, which is not below 0.
+abbrev pub isStateSet : Kind → Bool
+isStateSet (sets a0) = false
+isStateSet (sets a1) = false
+isStateSet (sets a2) = true
+isStateSet (adds a) = false
+isStateSet (reads m) = false
+
+-- The limit of an attribute, by those of used and promised; that of the state is 0. Then that of what a write writes.
+abbrev pub limitOn : ℕ → ℕ → Attribute → ℕ
+limitOn used promised a0 = used
+limitOn used promised a1 = promised
+limitOn used promised a2 = 0
+
+abbrev pub limitBy : ℕ → ℕ → Kind → ℕ
+limitBy used promised (sets a) = limitOn used promised a
+limitBy used promised (adds a) = limitOn used promised a
+limitBy used promised (reads m) = 0
+
+-- How large its error may be: a reading's is its stated limit, a write's is within the limit of what it writes.
+abbrev pub mostErrorBy : ℕ → ℕ → Kind → ℕ
+mostErrorBy used promised k = ifReading k mostError (limitBy used promised k)
+
+-- What an active claim and a waiting one both pass, 16 to 18 among it (AloneLaws); then the fresh flag.
+abbrev pub aloneFront : ℕ → ℕ → ℕ → ℕ → Kind → Claim → List Bool
+aloneFront used promised now next k c =
+    ltb (c .method) 7
+    ∷ leb 1 (c .ticket)
+    ∷ ltb (c .ticket) next
+    ∷ leb (c .priority) mostPriority
+    ∷ leb (size (c .value)) (mostValueBy k)
+    ∷ not (isStateSet k && ltZ (c .value) (pos 0))
+    ∷ leb (c .error) (mostErrorBy used promised k)
+    ∷ leb (c .measured) (ifReading k 0 now)
+    ∷ []
+
+abbrev pub flagTest : Kind → Claim → Bool
+flagTest k c = leb (c .flag) (ifReading k mostFlag 0)
+
+abbrev pub aloneTests : ℕ → ℕ → ℕ → ℕ → Kind → Claim → List Bool
+aloneTests used promised now next k c = aloneFront used promised now next k c ++ (flagTest k c ∷ [])
+
+unfoldable pub aloneFits : ℕ → ℕ → ℕ → ℕ → Claim → Bool
+aloneFits used promised now next c = allTrue (aloneTests used promised now next (kindOf diskTable c) c)
 
 -- ---- two claims
 

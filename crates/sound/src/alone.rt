@@ -1,17 +1,22 @@
-// A claim by itself: its ranges, 16 to 18, told and amount.
+// A claim by itself: its ranges, 16 to 18, told and amount. What it may have depends on its method, and the code compares with the
+// most that the method allows: a number is chosen, not a way through the code, so the processor has no method to guess.
 
 ghost use mathlib.Core.Path.{_≡_};
-ghost use Rattle.law.specs.Sound.{bare};
+ghost use Prim.Native.Nat.{_≤_};
+ghost use Rattle.law.specs.Entries.{kindAt};
+ghost use Rattle.law.specs.DiskType.{diskTable};
 ghost use Rattle.lock.specs.Methods.{figuresOf};
-ghost use Rattle.sound.specs.Tests.{claimFits, toldFits, activeFits, waitingFits};
+ghost use Rattle.sound.specs.Tests.{ifReading, mostValueBy, limitBy, mostErrorBy, aloneFits, activeFits, waitingFits};
 use law::Attr;
 use law::Claim;
 use lock::method::METHODS;
 use lock::method::is_reading;
 use num::signed::size;
-use num::signed::within;
-use rules::fields::fields_fit;
-use rules::fields::own_fits;
+use num::truth::both;
+
+const MOST_VALUE: u32 = 1000000000;
+
+const MOST_STATE: u32 = 255;
 
 const MOST_ERROR: u32 = 2000000000;
 
@@ -19,14 +24,53 @@ const MOST_PRIORITY: u32 = 255;
 
 const MOST_FLAG: u32 = 1;
 
-// A claim by itself: priority, flag, ticket and method in range.
-fn claim_fits(c: Claim, next: u32) -> bool
-    ensures { λ r. ⌜ r ≡ claimFits next c ⌝ }
+// ReportUsed sets used; from there to SetState, which sets the state, the methods write promised.
+const REPORT_USED: u32 = 0;
+
+const SET_STATE: u32 = 3;
+
+// One number of a reading, another of a write.
+fn if_reading(m: u32, reading: u32, write: u32) -> u32
+    ensures { λ r. ⌜ r ≡ ifReading (kindAt diskTable m) reading write ⌝ }
 {
-    if MOST_PRIORITY < c.priority {
-        return false;
+    if is_reading(m) { reading } else { write }
+}
+
+// How large a value may be: a state 255, any other 1,000,000,000; a reading has none.
+fn most_value(m: u32) -> u32
+    ensures { λ r. ⌜ r ≡ mostValueBy (kindAt diskTable m) ⌝ }
+{
+    if m < SET_STATE {
+        MOST_VALUE
+    } else {
+        if m == SET_STATE { MOST_STATE } else { 0 }
     }
-    if MOST_FLAG < c.flag {
+}
+
+// The limit of what a write writes, by those of used and promised; that of the state is 0.
+fn limit(m: u32, used: u32, promised: u32) -> u32
+    ensures { λ r. ⌜ r ≡ limitBy used promised (kindAt diskTable m) ⌝ }
+{
+    if m == REPORT_USED {
+        used
+    } else {
+        if m < SET_STATE { promised } else { 0 }
+    }
+}
+
+// A reading's stated limit is at most 2,000,000,000; a write's own error at most the limit of what it writes.
+fn most_error(m: u32, used: u32, promised: u32) -> u32
+    ensures { λ r. ⌜ r ≡ mostErrorBy used promised (kindAt diskTable m) ⌝ }
+{
+    if_reading(m, MOST_ERROR, limit(m, used, promised))
+}
+
+// What an active claim and a waiting one both pass: method, ticket and priority in range; the value, of a state not below 0; the
+// error; measured by the clock's second, a reading at 0; the fresh flag, which a write has not.
+fn alone(c: Claim, clock: u32, next: u32, used: u32, promised: u32) -> bool
+    ensures { λ r. ⌜ r ≡ aloneFits used promised clock next c ⌝ }
+{
+    if METHODS <= c.method {
         return false;
     }
     if c.ticket < 1 {
@@ -35,49 +79,42 @@ fn claim_fits(c: Claim, next: u32) -> bool
     if next <= c.ticket {
         return false;
     }
-    c.method < METHODS
-}
-
-// Told and amount are 0.
-fn is_bare(c: Claim) -> bool
-    ensures { λ r. ⌜ r ≡ bare c ⌝ }
-{
-    if size(c.told) != 0 {
+    if MOST_PRIORITY < c.priority {
         return false;
     }
-    c.amount == 0
-}
-
-// Told and amount of an active claim: a reading's told in range and its amount ≤ its limit; a write has neither.
-fn told_fits(c: Claim) -> bool
-    ensures { λ r. ⌜ r ≡ toldFits c ⌝ }
-{
-    if is_reading(c.method) {
-        if !within(c.told, MOST_ERROR) {
-            return false;
-        }
-        return c.amount <= c.error;
+    if most_value(c.method) < size(c.value) {
+        return false;
     }
-    is_bare(c)
+    if both(c.method == SET_STATE, c.value < 0) {
+        return false;
+    }
+    if most_error(c.method, used, promised) < c.error {
+        return false;
+    }
+    if if_reading(c.method, 0, clock) < c.measured {
+        return false;
+    }
+    c.flag <= if_reading(c.method, MOST_FLAG, 0)
 }
 
-// An active claim by itself, and a waiting one: each passes 16 to 18. That it was measured by the clock's second is
-// among its fields (17).
+// An active claim. The figures have been tested before: their limits are in range, the state's is 0. A reading's told is in range
+// and its amount ≤ its limit; a write has neither.
 pub fn active_fits(c: Claim, clock: u32, next: u32, used: Attr, promised: Attr, state: Attr) -> bool
+    requires { ⌜ used .limit ≤ 2_000_000_000 ⌝ }
+    requires { ⌜ promised .limit ≤ 2_000_000_000 ⌝ }
+    requires { ⌜ state .limit ≡ 0 ⌝ }
     ensures { λ r. ⌜ r ≡ activeFits (figuresOf used promised state) clock next c ⌝ }
 {
-    if !claim_fits(c, next) {
+    if !alone(c, clock, next, used.limit, promised.limit) {
         return false;
     }
-    if !fields_fit(c, clock) {
+    if if_reading(c.method, MOST_ERROR, 0) < size(c.told) {
         return false;
     }
-    if !own_fits(c.method, c.error, used, promised, state) {
-        return false;
-    }
-    told_fits(c)
+    c.amount <= if_reading(c.method, c.error, 0)
 }
 
+// A waiting claim: told and amount are 0.
 pub fn waiting_fits(
     c: Claim,
     clock: u32,
@@ -86,16 +123,16 @@ pub fn waiting_fits(
     promised: Attr,
     state: Attr,
 ) -> bool
+    requires { ⌜ used .limit ≤ 2_000_000_000 ⌝ }
+    requires { ⌜ promised .limit ≤ 2_000_000_000 ⌝ }
+    requires { ⌜ state .limit ≡ 0 ⌝ }
     ensures { λ r. ⌜ r ≡ waitingFits (figuresOf used promised state) clock next c ⌝ }
 {
-    if !claim_fits(c, next) {
+    if !alone(c, clock, next, used.limit, promised.limit) {
         return false;
     }
-    if !fields_fit(c, clock) {
+    if size(c.told) != 0 {
         return false;
     }
-    if !own_fits(c.method, c.error, used, promised, state) {
-        return false;
-    }
-    is_bare(c)
+    c.amount == 0
 }

@@ -29,6 +29,7 @@ use Rattle.sound.proofs.TestLaws.{test-fails, test-last}
 use Rattle.sound.proofs.WalkLaws.{there}
 use Rattle.sound.proofs.TicketLaws.{none-before, free-on}
 use Rattle.sound.proofs.MeetLaws.{methods-on, methods-end, twice-on, twice-end}
+use Rattle.sound.proofs.AloneLaws.{limits}
 use Rattle.sound.proofs.DiskLaws.{actives, waitings, clock-read, next-read, actives-read, good}
 use Rattle.sound.proofs.active.actives_fit.Statement.{statement}
 use Rattle.sound.proofs.active.actives_fit.Tie as tie
@@ -150,7 +151,12 @@ active-at-requires c κs =
     (long k, omega (arith, c .loop-test .taken, count k, row k .few))
 
 active-fits-requires : tie.Need-active-fits-requires Inv μ
-active-fits-requires c κs = tt
+active-fits-requires c κs =
+    let k = c .before .before .before in
+    let l = limits (figuresIn (decode (part k))) _ _ (k .before .before .before .before .before .before .before .pre .1 .1) in
+    let used = k .before .before .used-at .ensures in
+    let promised = k .before .promised-at .ensures in
+    (rw used (l .0), (rw promised (l .1), rw (k .code-at .ensures) (l .2)))
 
 failed-requires : tie.Need-failed-requires Inv μ
 failed-requires c κs = tt

@@ -1,71 +1,81 @@
 -- Where a test fails the claim does not fit; the last one decides.
-use mathlib.Core.Path.{sym, _∙_}
+use mathlib.Core.Bool.{Bool}
+use mathlib.Core.List.{List, [], _∷_, _++_}
+use mathlib.Core.Path.{_≡_, sym, ap, _∙_}
 use borrow.Author.Needs.{needs}
 use borrow.Author.Tests.{not-true, not-false}
+use mir.Facts.{toZ-ofZ}
+use lib.Dec.{leb}
+use Rattle.num.specs.Metric.{size}
+use Rattle.law.specs.Base.{allTrue}
+use Rattle.law.specs.Types.{Figures}
+use Rattle.law.specs.Says.{_and_}
 use Rattle.lock.specs.Methods.{figuresOf}
-use Rattle.sound.specs.Tests.{passTests, toldFits, activeTests, activeFits}
-use Rattle.sound.proofs.TestLaws.{test-fails, test-last}
+use Rattle.sound.specs.Tests.{activeFits}
+use Rattle.sound.proofs.TestLaws.{test-fails, test-last, above, within}
+use Rattle.sound.proofs.AloneLaws.{activeFront, amountFits, active-is}
 use Rattle.sound.proofs.alone.active_fits.Statement.{statement}
 use Rattle.sound.proofs.alone.active_fits.Tie as tie
 
-claim-fits-requires : tie.Need-claim-fits-requires
-claim-fits-requires c κs = search needs
+-- At the start: the figures, the tests but the last, all tests, and that they are the law's.
+module _ (s : tie.Start) where
+  abbrev figures : Figures
+  figures = figuresOf (s .args .used) (s .args .promised) (s .args .state)
+
+  abbrev front : List Bool
+  front = activeFront figures (s .args .clock) (s .args .next) (s .args .c)
+
+  abbrev last : Bool
+  last = amountFits figures (s .args .clock) (s .args .next) (s .args .c)
+
+  law : allTrue (front ++ (last ∷ [])) ≡ activeFits figures (s .args .clock) (s .args .next) (s .args .c)
+  law = active-is figures (s .args .clock) (s .args .next) (s .args .c) (s .pre .0) (s .pre .1 .0) (s .pre .1 .1)
+
+size-is : (c : tie.After-size) → let a = c .before .before .before .before .before .args in c .size .result ≡ size (a .c .told)
+size-is c = rw (toZ-ofZ (record { sfits = c .before .struct-told .given .1 .1 .1 .1 .1 .1 .1 .0 .1 })) at (c .size .ensures .0)
+
+alone-requires : tie.Need-alone-requires
+alone-requires c κs = search needs
 
 returns : tie.Need-returns
-unfolding activeFits
 returns c =
-    let a = c .before .before .args in
-    test-fails (activeTests (figuresOf (a .used) (a .promised) (a .state)) (a .clock) (a .next) (a .c)) 0
-    (sym (c .before .claim-fits .ensures) ∙ not-true _ (c .if1 .taken))
+    let s = c .before .before in
+    test-fails (front s ++ (last s ∷ [])) 0 (sym (c .before .alone .ensures) ∙ not-true _ (c .if1 .taken)) ∙ law s
 
-fields-fit-requires : tie.Need-fields-fit-requires
-fields-fit-requires c κs = search needs
+if-reading-requires : tie.Need-if-reading-requires
+if-reading-requires c κs = search needs
+
+size-requires : tie.Need-size-requires
+size-requires c κs = search needs
 
 returns-2 : tie.Need-returns-2
-unfolding activeFits
 returns-2 c =
-    let a = c .before .before .before .before .args in
-    test-fails (activeTests (figuresOf (a .used) (a .promised) (a .state)) (a .clock) (a .next) (a .c)) 1
-    (sym (c .before .fields-fit .ensures) ∙ not-true _ (c .if2 .taken))
+    let s = c .before .before .before .before .before .before in
+    test-fails (front s ++ (last s ∷ [])) 1 (above _ _ _ _ (size-is (c .before)) (c .before .before .before .if-reading .ensures) (c .if2 .taken)) ∙ law s
 
-own-fits-requires : tie.Need-own-fits-requires
-own-fits-requires c κs = search needs
+if-reading-requires-2 : tie.Need-if-reading-requires-2
+if-reading-requires-2 c κs = search needs
 
 returns-3 : tie.Need-returns-3
-unfolding activeFits
 returns-3 c =
-    let a = c .before .before .before .before .before .before .args in
-    test-fails (activeTests (figuresOf (a .used) (a .promised) (a .state)) (a .clock) (a .next) (a .c)) 2
-    (sym (c .before .own-fits .ensures) ∙ not-true _ (c .if3 .taken))
-
-told-fits-requires : tie.Need-told-fits-requires
-told-fits-requires c κs = search needs
-
-returns-4 : tie.Need-returns-4
-unfolding activeFits
-returns-4 c =
-    let own = c .before in
-    let fields = own .before .before in
-    let claim = fields .before .before in
-    let a = claim .before .before .args in
-    c .told-fits .ensures
-    ∙ test-last (passTests (figuresOf (a .used) (a .promised) (a .state)) (a .clock) (a .next) (a .c)) (toldFits (a .c)) (
-      sym (claim .before .claim-fits .ensures) ∙ not-false _ (claim .if1 .left),
-      (
-        sym (fields .before .fields-fit .ensures) ∙ not-false _ (fields .if2 .left),
-        (sym (own .before .own-fits .ensures) ∙ not-false _ (own .if3 .left), tt),
-      ),
-    )
+    let told = c .before .before in
+    let alone = told .before .before .before .before in
+    let s = alone .before .before in
+    ap (leb (s .args .c .amount)) (c .before .if-reading2 .ensures)
+    ∙ test-last (front s) (last s)
+    (sym (alone .before .alone .ensures) ∙ not-false _ (alone .if1 .left)
+    and within _ _ _ _ (size-is (told .before)) (told .before .before .before .if-reading .ensures) (told .if2 .left)
+    and tt)
+    ∙ law s
 
 pub active-fits-spec : {M : Type 1} → statement M
 active-fits-spec =
     tie.close
     (tie.spec
-    claim-fits-requires
+    alone-requires
     returns
-    fields-fit-requires
+    if-reading-requires
+    size-requires
     returns-2
-    own-fits-requires
-    returns-3
-    told-fits-requires
-    returns-4)
+    if-reading-requires-2
+    returns-3)

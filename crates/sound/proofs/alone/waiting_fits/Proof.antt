@@ -1,72 +1,65 @@
 -- Where a test fails the claim does not fit; the last one decides.
-use mathlib.Core.Path.{sym, _∙_}
+use mathlib.Core.Bool.{Bool}
+use mathlib.Core.List.{List, [], _∷_, _++_}
+use mathlib.Core.Path.{_≡_, sym, _∙_}
 use borrow.Author.Needs.{needs}
-use borrow.Author.Tests.{not-true, not-false}
-use Rattle.law.specs.Sound.{bare}
+use borrow.Author.Tests.{eq-eqb, ne-eqb, not-true, not-false}
+use mir.Facts.{toZ-ofZ}
+use lib.Dec.{eqb}
+use Rattle.num.specs.Metric.{size}
+use Rattle.law.specs.Base.{allTrue}
+use Rattle.law.specs.Types.{Figures}
+use Rattle.law.specs.Says.{_and_}
 use Rattle.lock.specs.Methods.{figuresOf}
-use Rattle.sound.specs.Tests.{passTests, waitingTests, waitingFits}
+use Rattle.sound.specs.Tests.{waitingFits}
 use Rattle.sound.proofs.TestLaws.{test-fails, test-last}
+use Rattle.sound.proofs.AloneLaws.{waitingFront, waiting-is}
 use Rattle.sound.proofs.alone.waiting_fits.Statement.{statement}
 use Rattle.sound.proofs.alone.waiting_fits.Tie as tie
 
-claim-fits-requires : tie.Need-claim-fits-requires
-claim-fits-requires c κs = search needs
+-- At the start: the figures, the tests but the last, all tests, and that they are the law's.
+module _ (s : tie.Start) where
+  abbrev figures : Figures
+  figures = figuresOf (s .args .used) (s .args .promised) (s .args .state)
+
+  abbrev front : List Bool
+  front = waitingFront figures (s .args .clock) (s .args .next) (s .args .c)
+
+  abbrev last : Bool
+  last = eqb (s .args .c .amount) 0
+
+  law : allTrue (front ++ (last ∷ [])) ≡ waitingFits figures (s .args .clock) (s .args .next) (s .args .c)
+  law = waiting-is figures (s .args .clock) (s .args .next) (s .args .c) (s .pre .0) (s .pre .1 .0) (s .pre .1 .1)
+
+size-is : (c : tie.After-size) → let a = c .before .before .before .before .args in c .size .result ≡ size (a .c .told)
+size-is c = rw (toZ-ofZ (record { sfits = c .before .struct-told .given .1 .1 .1 .1 .1 .1 .1 .0 .1 })) at (c .size .ensures .0)
+
+alone-requires : tie.Need-alone-requires
+alone-requires c κs = search needs
 
 returns : tie.Need-returns
-unfolding waitingFits
 returns c =
-    let a = c .before .before .args in
-    test-fails (waitingTests (figuresOf (a .used) (a .promised) (a .state)) (a .clock) (a .next) (a .c)) 0
-    (sym (c .before .claim-fits .ensures) ∙ not-true _ (c .if1 .taken))
+    let s = c .before .before in
+    test-fails (front s ++ (last s ∷ [])) 0 (sym (c .before .alone .ensures) ∙ not-true _ (c .if1 .taken)) ∙ law s
 
-fields-fit-requires : tie.Need-fields-fit-requires
-fields-fit-requires c κs = search needs
+size-requires : tie.Need-size-requires
+size-requires c κs = search needs
 
 returns-2 : tie.Need-returns-2
-unfolding waitingFits
 returns-2 c =
-    let a = c .before .before .before .before .args in
-    test-fails (waitingTests (figuresOf (a .used) (a .promised) (a .state)) (a .clock) (a .next) (a .c)) 1
-    (sym (c .before .fields-fit .ensures) ∙ not-true _ (c .if2 .taken))
-
-own-fits-requires : tie.Need-own-fits-requires
-own-fits-requires c κs = search needs
+    let s = c .before .before .before .before .before in
+    test-fails (front s ++ (last s ∷ [])) 1 (ne-eqb _ _ (λ e. c .if2 .taken (size-is (c .before) ∙ e))) ∙ law s
 
 returns-3 : tie.Need-returns-3
-unfolding waitingFits
 returns-3 c =
-    let a = c .before .before .before .before .before .before .args in
-    test-fails (waitingTests (figuresOf (a .used) (a .promised) (a .state)) (a .clock) (a .next) (a .c)) 2
-    (sym (c .before .own-fits .ensures) ∙ not-true _ (c .if3 .taken))
-
-is-bare-requires : tie.Need-is-bare-requires
-is-bare-requires c κs = search needs
-
-returns-4 : tie.Need-returns-4
-unfolding waitingFits
-returns-4 c =
-    let own = c .before in
-    let fields = own .before .before in
-    let claim = fields .before .before in
-    let a = claim .before .before .args in
-    c .is-bare .ensures
-    ∙ test-last (passTests (figuresOf (a .used) (a .promised) (a .state)) (a .clock) (a .next) (a .c)) (bare (a .c)) (
-      sym (claim .before .claim-fits .ensures) ∙ not-false _ (claim .if1 .left),
-      (
-        sym (fields .before .fields-fit .ensures) ∙ not-false _ (fields .if2 .left),
-        (sym (own .before .own-fits .ensures) ∙ not-false _ (own .if3 .left), tt),
-      ),
-    )
+    let told = c .before in
+    let alone = told .before .before .before in
+    let s = alone .before .before in
+    test-last (front s) (last s)
+    (sym (alone .before .alone .ensures) ∙ not-false _ (alone .if1 .left)
+    and eq-eqb _ _ (sym (size-is (told .before)) ∙ told .if2 .left)
+    and tt)
+    ∙ law s
 
 pub waiting-fits-spec : {M : Type 1} → statement M
-waiting-fits-spec =
-    tie.close
-    (tie.spec
-    claim-fits-requires
-    returns
-    fields-fit-requires
-    returns-2
-    own-fits-requires
-    returns-3
-    is-bare-requires
-    returns-4)
+waiting-fits-spec = tie.close (tie.spec alone-requires returns size-requires returns-2 returns-3)

@@ -20,6 +20,7 @@ use Rattle.sound.specs.Tests.{waitingFits}
 use Rattle.sound.specs.Seen.{free}
 use Rattle.sound.proofs.WalkLaws.{there}
 use Rattle.sound.proofs.TicketLaws.{none-before, free-on, free-end}
+use Rattle.sound.proofs.AloneLaws.{limits}
 use Rattle.sound.proofs.DiskLaws.{waitings, clock-read, next-read, waitings-read, good}
 use Rattle.sound.proofs.waiting.waitings_fit.Statement.{statement}
 use Rattle.sound.proofs.waiting.waitings_fit.Tie as tie
@@ -105,7 +106,12 @@ waiting-at-requires c κs =
     (long k, omega (arith, c .loop-test .taken, count k, row k .few))
 
 waiting-fits-requires : tie.Need-waiting-fits-requires Inv μ
-waiting-fits-requires c κs = tt
+waiting-fits-requires c κs =
+    let k = c .before .before .before in
+    let l = limits (figuresIn (decode (part k))) _ _ (k .before .before .before .before .before .before .before .pre .1 .1) in
+    let used = k .before .before .used-at .ensures in
+    let promised = k .before .promised-at .ensures in
+    (rw used (l .0), (rw promised (l .1), rw (k .code-at .ensures) (l .2)))
 
 returns : tie.Need-returns Inv μ
 returns c =

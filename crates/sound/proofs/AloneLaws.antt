@@ -1,0 +1,250 @@
+-- Laws of a claim by itself: where the limits of the figures are in range, what the code compares with the most that a claim's
+-- kind may have are the law's tests of it.
+use Prim.Native.Nat.{ℕ, _≤_}
+use mathlib.Core.Bool.{Bool, true, false, cond, not, _&&_, and-true, and-false}
+use mathlib.Core.List.{List, [], _∷_, _++_}
+use mathlib.Core.Path.{_≡_, refl, sym, ap, _∙_}
+use native.Mathlib.Omega.{arith}
+use borrow.Author.Tests.{leb-true, le-leb, le-ltb, eqb-true, eq-eqb, ne-eqb}
+use lib.Dec.{leb, ltb, eqb}
+use lib.IntN.{ℤ, pos, negsuc}
+use lib.Signed.{ltZ}
+use Rattle.num.specs.Metric.{size}
+use Rattle.law.specs.declared.Claim.{Claim}
+use Rattle.law.specs.Base.{allTrue}
+use Rattle.law.specs.Lists.{passed, all-passed}
+use Rattle.law.specs.Says.{_and_}
+use Rattle.law.specs.Types.{mostValue, mostError, mostState, mostPriority, mostFlag, a0, a1, a2, Kind, sets, adds, reads, Figures}
+use Rattle.law.specs.Entries.{kindAt, kindOf}
+use Rattle.law.specs.Calls.{valueFits, fieldTests, ownFits}
+use Rattle.law.specs.Sound.{bare, bareBy, readingBy}
+use Rattle.law.specs.DiskType.{diskTable}
+use Rattle.lock.proofs.MethodLaws.{method-past, method-cases}
+use Rattle.sound.specs.Tests.{figureTests, figureFits, figuresTests, figuresFit, claimTests, claimFits, toldTests, toldFits, activeFits, waitingFits, ifReading, mostValueBy, isStateSet, limitBy, aloneTests, aloneFits}
+use Rattle.sound.proofs.WalkLaws.{same-test}
+
+-- ---- the numbers that the code chooses by the method
+
+pub value-of : (m : ℕ) → cond (ltb m 3) mostValue (cond (eqb m 3) mostState 0) ≡ mostValueBy (kindAt diskTable m)
+unfolding diskTable
+value-of =
+    method-cases (λ m. cond (ltb m 3) mostValue (cond (eqb m 3) mostState 0) ≡ mostValueBy (kindAt diskTable m))
+    refl refl refl refl refl refl refl
+    (λ m h. rw (method-past m h, le-ltb m 3 (omega arith), ne-eqb m 3 (λ e. omega arith)))
+
+pub limit-of : (used promised m : ℕ) →
+    cond (eqb m 0) used (cond (ltb m 3) promised 0) ≡ limitBy used promised (kindAt diskTable m)
+unfolding diskTable
+limit-of used promised =
+    method-cases (λ m. cond (eqb m 0) used (cond (ltb m 3) promised 0) ≡ limitBy used promised (kindAt diskTable m))
+    refl refl refl refl refl refl refl
+    (λ m h. rw (method-past m h, ne-eqb m 0 (λ e. omega arith), le-ltb m 3 (omega arith)))
+
+-- SetState alone sets the state.
+pub state-set : (m : ℕ) → eqb m 3 ≡ isStateSet (kindAt diskTable m)
+unfolding diskTable
+state-set =
+    method-cases (λ m. eqb m 3 ≡ isStateSet (kindAt diskTable m)) refl refl refl refl refl refl refl
+    (λ m h. rw (method-past m h) (ne-eqb m 3 (λ e. omega arith)))
+
+-- ---- tests that are the same
+
+none : (n : ℕ) → leb n 0 ≡ eqb n 0
+none n = same-test (leb n 0) (eqb n 0) (λ e. eq-eqb n 0 (omega (arith, leb-true n 0 e))) (λ e. le-leb n 0 (omega (arith, eqb-true n 0 e)))
+
+-- A code: its size is in range and it is not below 0.
+code-is : (z : ℤ) → allTrue (leb (size z) mostState ∷ not (ltZ z (pos 0)) ∷ []) ≡ valueFits a2 z
+code-is (pos n) = rw (le-ltb n 0 (omega arith)) (and-true (leb n mostState))
+code-is (negsuc n) = and-false (leb (size (negsuc n)) mostState)
+
+-- Four tests are three and the last.
+last-of : (a b c d : Bool) → allTrue (a ∷ b ∷ c ∷ d ∷ []) ≡ (allTrue (a ∷ b ∷ c ∷ []) && d)
+last-of true true true d = and-true d
+last-of true true false d = refl
+last-of true false c d = refl
+last-of false b c d = refl
+
+-- ---- figures that fit
+
+-- Their limits: those of used and promised in range, that of the state 0.
+pub limits : (f : Figures) (now next : ℕ) → figuresFit f now next ≡ true →
+    (f .f0 .limit ≤ mostError) × (f .f1 .limit ≤ mostError) × (f .f2 .limit ≡ 0)
+unfolding figuresFit figureFits
+limits f now next h =
+    let t = passed (figuresTests f now next) h .1 .1 in
+    let u = passed (figureTests a0 now (f .f0)) (t .0) in
+    let p = passed (figureTests a1 now (f .f1)) (t .1 .0) in
+    let s = passed (figureTests a2 now (f .f2)) (t .1 .1 .0) in
+    (leb-true (f .f0 .limit) mostError (u .1 .0), leb-true (f .f1 .limit) mostError (p .1 .0), eqb-true (f .f2 .limit) 0 (s .1 .0))
+
+-- ---- by kind
+
+module _ (now next : ℕ) (c : Claim) where
+  -- A write: the two tests v and w of its value are the law's test z; its own error is within the limit l.
+  module _ (v w z : Bool) (l : ℕ) (most : l ≤ mostError) (both : allTrue (v ∷ w ∷ []) ≡ z) where
+    abbrev ours : List Bool
+    ours =
+        ltb (c .method) 7
+        ∷ leb 1 (c .ticket)
+        ∷ ltb (c .ticket) next
+        ∷ leb (c .priority) mostPriority
+        ∷ v
+        ∷ w
+        ∷ leb (c .error) l
+        ∷ leb (c .measured) now
+        ∷ leb (c .flag) 0
+        ∷ []
+
+    abbrev fields : List Bool
+    fields = z ∷ eqb (c .flag) 0 ∷ leb (c .measured) now ∷ leb (c .error) mostError ∷ []
+
+    abbrev theirs : List Bool
+    theirs = claimFits next c ∷ allTrue fields ∷ leb (c .error) l ∷ []
+
+    there : allTrue ours ≡ true → allTrue theirs ≡ true
+    unfolding claimFits
+    there e =
+        let t = passed ours e in
+        let s = t .1 .1 .1 .1 in
+        let r = s .1 .1 in
+        let f : c .flag ≤ 0 = leb-true (c .flag) 0 (r .1 .1 .0) in
+        let o : c .error ≤ l = leb-true (c .error) l (r .0) in
+        all-passed theirs
+        (all-passed (claimTests next c)
+        (t .1 .1 .1 .0 and le-leb (c .flag) mostFlag (omega arith) and t .1 .0 and t .1 .1 .0 and t .0 and tt)
+        and all-passed fields
+        (sym both ∙ all-passed (v ∷ w ∷ []) (s .0 and s .1 .0 and tt)
+        and eq-eqb (c .flag) 0 (omega arith)
+        and r .1 .0
+        and le-leb (c .error) mostError (omega arith)
+        and tt)
+        and r .0
+        and tt)
+
+    back : allTrue theirs ≡ true → allTrue ours ≡ true
+    unfolding claimFits
+    back e =
+        let t = passed theirs e in
+        let p = passed (claimTests next c) (t .0) in
+        let f = passed fields (t .1 .0) in
+        let value = passed (v ∷ w ∷ []) (both ∙ f .0) in
+        all-passed ours
+        (p .1 .1 .1 .1 .0
+        and p .1 .1 .0
+        and p .1 .1 .1 .0
+        and p .0
+        and value .0
+        and value .1 .0
+        and t .1 .1 .0
+        and f .1 .1 .0
+        and le-leb (c .flag) 0 (omega (arith, eqb-true (c .flag) 0 (f .1 .0)))
+        and tt)
+
+    write-is : allTrue ours ≡ allTrue theirs
+    write-is = same-test (allTrue ours) (allTrue theirs) there back
+
+  -- A reading.
+  abbrev oursRead : List Bool
+  oursRead =
+      ltb (c .method) 7
+      ∷ leb 1 (c .ticket)
+      ∷ ltb (c .ticket) next
+      ∷ leb (c .priority) mostPriority
+      ∷ leb (size (c .value)) 0
+      ∷ true
+      ∷ leb (c .error) mostError
+      ∷ leb (c .measured) 0
+      ∷ leb (c .flag) mostFlag
+      ∷ []
+
+  abbrev fieldsRead : List Bool
+  fieldsRead = eqb (size (c .value)) 0 ∷ eqb (c .measured) 0 ∷ leb (c .error) mostError ∷ []
+
+  abbrev theirsRead : List Bool
+  theirsRead = claimFits next c ∷ allTrue fieldsRead ∷ true ∷ []
+
+  read-is : allTrue oursRead ≡ allTrue theirsRead
+  unfolding claimFits
+  read-is =
+      same-test (allTrue oursRead) (allTrue theirsRead)
+      (λ e.
+      let t = passed oursRead e in
+      let s = t .1 .1 .1 .1 in
+      let r = s .1 .1 in
+      all-passed theirsRead
+      (all-passed (claimTests next c) (t .1 .1 .1 .0 and r .1 .1 .0 and t .1 .0 and t .1 .1 .0 and t .0 and tt)
+      and all-passed fieldsRead (sym (none (size (c .value))) ∙ s .0 and sym (none (c .measured)) ∙ r .1 .0 and r .0 and tt)
+      and refl
+      and tt))
+      (λ e.
+      let t = passed theirsRead e in
+      let p = passed (claimTests next c) (t .0) in
+      let f = passed fieldsRead (t .1 .0) in
+      all-passed oursRead
+      (p .1 .1 .1 .1 .0
+      and p .1 .1 .0
+      and p .1 .1 .1 .0
+      and p .0
+      and none (size (c .value)) ∙ f .0
+      and refl
+      and f .1 .1 .0
+      and none (c .measured) ∙ f .1 .0
+      and p .1 .0
+      and tt))
+
+  -- Told and amount of an active claim: a reading's are within its bounds, a write has neither.
+  told-is : (k : Kind) →
+      allTrue (leb (size (c .told)) (ifReading k mostError 0) ∷ leb (c .amount) (ifReading k (c .error) 0) ∷ [])
+      ≡ allTrue (bareBy k c ∷ readingBy k c ∷ [])
+  told-is (sets a) = rw (none (size (c .told)), none (c .amount)) (sym (and-true (bare c)))
+  told-is (adds a) = rw (none (size (c .told)), none (c .amount)) (sym (and-true (bare c)))
+  told-is (reads m) = sym (and-true (readingBy (reads m) c))
+
+-- ---- the claim
+
+module _ (f : Figures) (now next : ℕ) (c : Claim) where
+  abbrev kind : Kind
+  kind = kindOf diskTable c
+
+  -- The tests of an active claim but the last, which is of its amount, and those of a waiting one.
+  abbrev pub activeFront : List Bool
+  activeFront = aloneFits (f .f0 .limit) (f .f1 .limit) now next c ∷ leb (size (c .told)) (ifReading kind mostError 0) ∷ []
+
+  abbrev pub amountFits : Bool
+  amountFits = leb (c .amount) (ifReading kind (c .error) 0)
+
+  abbrev pub waitingFront : List Bool
+  waitingFront = aloneFits (f .f0 .limit) (f .f1 .limit) now next c ∷ eqb (size (c .told)) 0 ∷ []
+
+  -- The law's tests.
+  abbrev fieldsFit : Bool
+  fieldsFit = allTrue (fieldTests now kind c)
+
+  abbrev own : Bool
+  own = ownFits f kind (c .error)
+
+  abbrev value : Bool
+  value = leb (size (c .value)) mostValue
+
+  module _ (used : f .f0 .limit ≤ mostError) (promised : f .f1 .limit ≤ mostError) (state : f .f2 .limit ≡ 0) where
+    pass-is : (k : Kind) →
+        allTrue (aloneTests (f .f0 .limit) (f .f1 .limit) now next k c)
+        ≡ allTrue (claimFits next c ∷ allTrue (fieldTests now k c) ∷ ownFits f k (c .error) ∷ [])
+    pass-is (sets a0) = write-is now next c value true value (f .f0 .limit) used (and-true value)
+    pass-is (sets a1) = write-is now next c value true value (f .f1 .limit) promised (and-true value)
+    pass-is (sets a2) =
+        rw state
+        (write-is now next c (leb (size (c .value)) mostState) (not (ltZ (c .value) (pos 0))) (valueFits a2 (c .value)) 0
+        (omega arith) (code-is (c .value)))
+    pass-is (adds a0) = write-is now next c value true value (f .f0 .limit) used (and-true value)
+    pass-is (adds a1) = write-is now next c value true value (f .f1 .limit) promised (and-true value)
+    pass-is (adds a2) = rw state (write-is now next c value true value 0 (omega arith) (and-true value))
+    pass-is (reads m) = read-is now next c
+
+    pub active-is : allTrue (activeFront ++ (amountFits ∷ [])) ≡ activeFits f now next c
+    unfolding aloneFits activeFits toldFits
+    active-is = (λ i. pass-is kind i && told-is now next c kind i) ∙ sym (last-of (claimFits next c) fieldsFit own (toldFits c))
+
+    pub waiting-is : allTrue (waitingFront ++ (eqb (c .amount) 0 ∷ [])) ≡ waitingFits f now next c
+    unfolding aloneFits waitingFits
+    waiting-is = ap (λ (b : Bool). b && bare c) (pass-is kind) ∙ sym (last-of (claimFits next c) fieldsFit own (bare c))
