@@ -18,8 +18,8 @@ whole : (b : tie.Else1) → decodes (b .before .before .before .before .before .
 whole b = sym (b .before .decodes .ensures) ∙ not-false _ (b .if1 .left)
 
 -- The disk that it holds is sound.
-holds : (b : tie.Else2) → sound diskTable (diskOf (decode (b .before .before .before .before .before .before .before .before .before .args .part .now))) ≡ true
-holds b = sym (b .before .is-sound .ensures) ∙ not-false _ (b .if2 .left)
+holds : (b : tie.Else2) → sound diskTable (diskOf (decode (b .before .before .before .before .before .before .before .before .before .before .args .part .now))) ≡ true
+holds b = sym (b .before .before .is-sound .ensures .0) ∙ not-false _ (b .if2 .left)
 
 decodes-requires : tie.Need-decodes-requires
 decodes-requires c κs = search needs
@@ -54,9 +54,9 @@ same-length-4 c = search needs
 returns-2 : tie.Need-returns-2
 returns-2 c =
     let e = c .before .before .refuse2 .ensures in
-    let s = c .before .before .before .before .before .before .before .before .before .before .before .before .before .args in
-    serve-unsound (s .part .now) (whole (c .before .before .before .before .before .before .before)) {d = decode (s .part .now)} refl (callOf (s .r .now))
-    (sym (c .before .before .before .before .before .is-sound .ensures) ∙ not-true _ (c .before .before .before .before .if2 .taken)) (e .0) (e .1)
+    let s = c .before .before .before .before .before .before .before .before .before .before .before .before .before .before .args in
+    serve-unsound (s .part .now) (whole (c .before .before .before .before .before .before .before .before)) {d = decode (s .part .now)} refl (callOf (s .r .now))
+    (sym (c .before .before .before .before .before .before .is-sound .ensures .0) ∙ not-true _ (c .before .before .before .before .if2 .taken)) (e .0) (e .1)
 
 shared-slice-read-if3 : tie.Need-shared-slice-read-if3
 shared-slice-read-if3 c = search needs
@@ -66,8 +66,8 @@ asked-in-requires c κs = search needs
 
 serve-claim-requires : tie.Need-serve-claim-requires
 serve-claim-requires c κs =
-    let s = c .before .before .before .before .before .before .before .before .before .before .before .before .before .before in
-    (s .pre .0, (whole (c .before .before .before .before .before .before .before .before), (says-sound diskTable (diskOf (decode (s .args .part .now))) .0 (holds (c .before .before .before .before .before)), s .pre .1 .1)))
+    let s = c .before .before .before .before .before .before .before .before .before .before .before .before .before .before .before in
+    (s .pre .0, (whole (c .before .before .before .before .before .before .before .before .before), (says-sound diskTable (diskOf (decode (s .args .part .now))) .0 (holds (c .before .before .before .before .before)), (s .pre .1 .1, c .before .before .before .before .before .before .before .is-sound .ensures .1 (not-false _ (c .before .before .before .before .before .if2 .left))))))
 
 same-length-5 : tie.Need-same-length-5
 same-length-5 c = search needs
@@ -77,8 +77,8 @@ same-length-6 c = search needs
 
 returns-3 : tie.Need-returns-3
 returns-3 c =
-    let s = c .before .before .before .before .before .before .before .before .before .before .before .before .before .before .before .before .before .before .before .args in
-    serve-claims (s .part .now) (whole (c .before .before .before .before .before .before .before .before .before .before .before .before .before)) {d = decode (s .part .now)} refl (holds (c .before .before .before .before .before .before .before .before .before .before)) (s .r .now)
+    let s = c .before .before .before .before .before .before .before .before .before .before .before .before .before .before .before .before .before .before .before .before .args in
+    serve-claims (s .part .now) (whole (c .before .before .before .before .before .before .before .before .before .before .before .before .before .before)) {d = decode (s .part .now)} refl (holds (c .before .before .before .before .before .before .before .before .before .before)) (s .r .now)
     (c .before .before .before .before .before .before .asked-in .ensures) (c .before .before .before .before .before .before .before .before .if3 .taken) (c .before .before .before .before .serve-claim .ensures)
 
 word-at-requires : tie.Need-word-at-requires
@@ -89,8 +89,8 @@ word-at-requires-2 c κs = search needs
 
 serve-release-requires : tie.Need-serve-release-requires
 serve-release-requires c κs =
-    let s = c .before .before .before .before .before .before .before .before .before .before .before .before .before .before .before in
-    (s .pre .0, (whole (c .before .before .before .before .before .before .before .before .before), (says-sound diskTable (diskOf (decode (s .args .part .now))) .0 (holds (c .before .before .before .before .before .before)), s .pre .1 .1)))
+    let s = c .before .before .before .before .before .before .before .before .before .before .before .before .before .before .before .before in
+    (s .pre .0, (whole (c .before .before .before .before .before .before .before .before .before .before), (says-sound diskTable (diskOf (decode (s .args .part .now))) .0 (holds (c .before .before .before .before .before .before)), s .pre .1 .1)))
 
 same-length-7 : tie.Need-same-length-7
 same-length-7 c = search needs
@@ -100,8 +100,8 @@ same-length-8 c = search needs
 
 returns-4 : tie.Need-returns-4
 returns-4 c =
-    let s = c .before .before .before .before .before .before .before .before .before .before .before .before .before .before .before .before .before .before .before .before .args in
-    serve-releases (s .part .now) (whole (c .before .before .before .before .before .before .before .before .before .before .before .before .before .before)) {d = decode (s .part .now)} refl (holds (c .before .before .before .before .before .before .before .before .before .before .before)) (s .r .now)
+    let s = c .before .before .before .before .before .before .before .before .before .before .before .before .before .before .before .before .before .before .before .before .before .args in
+    serve-releases (s .part .now) (whole (c .before .before .before .before .before .before .before .before .before .before .before .before .before .before .before)) {d = decode (s .part .now)} refl (holds (c .before .before .before .before .before .before .before .before .before .before .before)) (s .r .now)
     (c .before .before .before .before .before .before .before .word-at .ensures) (c .before .before .before .before .before .before .word-at2 .ensures) (c .before .before .before .before .before .before .before .before .before .if3 .left) (c .before .before .before .before .serve-release .ensures)
 
 pub serve-spec : {M : Type 1} → statement M

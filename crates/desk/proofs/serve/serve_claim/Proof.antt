@@ -111,7 +111,7 @@ refusal-of-requires : tie.Need-refusal-of-requires
 refusal-of-requires c κs = search needs
 
 refuse-requires : tie.Need-refuse-requires
-refuse-requires c κs = c .before .before .before .before .before .before .before .before .before .pre .1 .1 .1
+refuse-requires c κs = c .before .before .before .before .before .before .before .before .before .pre .1 .1 .1 .0
 
 same-length : tie.Need-same-length
 same-length c = search needs
@@ -135,7 +135,7 @@ asked-requires : tie.Need-asked-requires
 asked-requires c κs = search needs
 
 put-answer-requires : tie.Need-put-answer-requires
-put-answer-requires c κs = c .before .before .before .before .before .before .before .before .before .before .before .before .before .before .pre .1 .1 .1
+put-answer-requires c κs = c .before .before .before .before .before .before .before .before .before .before .before .before .before .before .pre .1 .1 .1 .0
 
 accept-requires : tie.Need-accept-requires
 accept-requires c κs =
@@ -159,7 +159,7 @@ returns-2 c =
     (shows t (c .before .before .before .before .before .before .before .put-answer .ensures))
 
 put-answer-requires-2 : tie.Need-put-answer-requires-2
-put-answer-requires-2 c κs = c .before .before .before .before .before .before .before .before .before .before .before .before .before .pre .1 .1 .1
+put-answer-requires-2 c κs = c .before .before .before .before .before .before .before .before .before .before .before .before .before .pre .1 .1 .1 .0
 
 wait-requires : tie.Need-wait-requires
 wait-requires c κs =
