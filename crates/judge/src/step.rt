@@ -68,6 +68,9 @@ fn barred(s: &[u8], ahead: usize, c: Claim, second: u32, adds: u64) -> bool
     requires { ⌜ adds ≤ 17179869184 ⌝ }
     ensures { λ r. ⌜ r ≡ anyOf (barsOf (figuresIn (decode (now (s .entry)))) second adds c) (take ahead (decode (now (s .entry)) .waiting)) ⌝ }
 {
+    if ahead == 0 {
+        return false;
+    }
     let table = TABLE;
     let used = used_at(s);
     let promised = promised_at(s);
@@ -138,8 +141,9 @@ pub struct Decided {
     pub total: u64,
 }
 
-// The decision on c at a second behind the first waiting ones, in 01's order: preconditions, barring by one ahead, the lock step
-// (the starting amount and what each active claim adds, no entry N, each active reading within its own limit) and the place.
+// The decision on c at a second behind the first waiting ones: preconditions, barring by one ahead, the place, which is cheaper to
+// look for than the lock step (the starting amount and what each active claim adds, no entry N, each active reading within its own
+// limit).
 pub fn decide(s: &[u8], ahead: usize, c: Claim, second: u32, adds: u64, methods: u64) -> Decided
     requires { ⌜ length (now s) ≡ 768 ⌝ }
     requires { ⌜ Good (decode (now s)) ⌝ }
@@ -162,16 +166,17 @@ pub fn decide(s: &[u8], ahead: usize, c: Claim, second: u32, adds: u64, methods:
     if barred(s, ahead, c, second, adds) {
         return none;
     }
+    if 8 <= word_at(s, 8) {
+        return none;
+    }
     let step = lock_step(s, c, methods);
     if !step.ok {
         return none;
     }
     let most = limit(c.method, c.error, used, promised, state) as u64;
     let total = start(c.method, c.error, used, promised, state) + step.sum;
-    if word_at(s, 8) < 8 {
-        if total <= most {
-            return Decided { ok: true, total };
-        }
+    if total <= most {
+        return Decided { ok: true, total };
     }
     none
 }

@@ -28,6 +28,12 @@ Inv-loop s ahead c second adds table used promised state m col j₀ j =
 abbrev μ-loop : tie.MeasureT-loop
 μ-loop s ahead c second adds table used promised state m col j₀ j = ahead - j
 
+-- None is ahead.
+returns : tie.Need-returns Inv-loop μ-loop
+returns c =
+    let a = c .before .before .args in
+    ap (λ (n : ℕ). anyOf (barsAt (figuresIn (decode (a .s .now))) (a .second) (a .adds) (a .c .priority) (a .c .method)) (take n (decode (a .s .now) .waiting))) (sym (c .if1 .taken))
+
 used-at-requires : tie.Need-used-at-requires Inv-loop μ-loop
 used-at-requires c κs = search needs
 
@@ -46,7 +52,7 @@ abbrev Read : Type 0
 Read = tie.After-index-of Inv-loop μ-loop
 
 abbrev start : Read → tie.Start Inv-loop μ-loop
-start i = i .before .before .before .before .before
+start i = i .before .before .before .before .before .before
 
 abbrev disk : Read → Disk
 disk i = decode (start i .args .s .now)
@@ -110,13 +116,13 @@ bars-there b =
     sym (ap (barring i) (w .ensures))
     ∙ sym (bars-at (figures i) (a .second) (a .adds) (a .c .priority) (a .c .method) (w .result) (b .before .entry .ensures) (b .bars .ensures))
 
-returns : tie.Need-returns Inv-loop μ-loop
-returns c =
+returns-2 : tie.Need-returns-2 Inv-loop μ-loop
+returns-2 c =
     let b = c .before in
     let t = b .before .before .before .before .before in
     let l = t .before in
     let i = l .before in
-    first-any-here (disk i .waiting) (start i .args .ahead) (room i) (barring i) (l .loop .j) (t .loop-test .taken) (bars-there b ∙ c .if1 .taken)
+    first-any-here (disk i .waiting) (start i .args .ahead) (room i) (barring i) (l .loop .j) (t .loop-test .taken) (bars-there b ∙ c .if2 .taken)
     ∙ l .loop .inv
     ∙ by-disk i
 
@@ -134,11 +140,11 @@ loop-again c =
     let t = b .before .before .before .before .before in
     let l = t .before in
     let i = l .before in
-    first-any-on (disk i .waiting) (start i .args .ahead) (room i) (barring i) (l .loop .j) (t .loop-test .taken) (bars-there b ∙ c .if1 .left)
+    first-any-on (disk i .waiting) (start i .args .ahead) (room i) (barring i) (l .loop .j) (t .loop-test .taken) (bars-there b ∙ c .if2 .left)
     ∙ l .loop .inv
 
-returns-2 : tie.Need-returns-2 Inv-loop μ-loop
-returns-2 c =
+returns-3 : tie.Need-returns-3 Inv-loop μ-loop
+returns-3 c =
     let l = c .before in
     let i = l .before in
     first-any-end (disk i .waiting) (start i .args .ahead) (room i) (barring i) (l .loop .j) (c .loop-test .left)
@@ -151,6 +157,7 @@ barred-spec =
     (tie.spec
     Inv-loop
     μ-loop
+    returns
     used-at-requires
     promised-at-requires
     code-at-requires
@@ -163,8 +170,8 @@ barred-spec =
     index-2-found
     entry-requires
     bars-requires
-    returns
+    returns-2
     add-j
     loop-less
     loop-again
-    returns-2)
+    returns-3)

@@ -1,4 +1,4 @@
--- The four tests in 01's order: where one fails the claim is not granted, by DecideLaws; where all pass, the total is the law's.
+-- Four tests: where one fails the claim is not granted, by DecideLaws; where all pass, the total is the law's.
 use borrow.Author.Needs.{needs}
 use borrow.Author.Tests.{le-leb, lt-leb, not-true, not-false}
 use Prim.Native.Nat.{ℕ, _+_, _≤_, _<_}
@@ -118,20 +118,39 @@ returns-2 c =
 free : (l : tie.Else2) → Free (l .before .before .before .before .before .before .before .before)
 free l = sym (l .before .barred .ensures) ∙ l .if2 .left
 
+-- ---- the place
+
+word-at-requires : tie.Need-word-at-requires
+word-at-requires c κs = search needs
+
+count-is : (w : tie.After-word-at) → w .word-at .result ≡ length (ws (w .before .before .before .before .before .before .before .before .before))
+count-is w =
+    let k = w .before .before .before .before .before .before .before .before .before in
+    w .word-at .ensures ∙ actives-read (k .args .s .now) ∙ sym (row-length (k .pre .1 .0 .active))
+
+returns-3 : tie.Need-returns-3
+returns-3 c =
+    let w = c .before in
+    let k = w .before .before .before .before .before .before .before .before .before in
+    refused k
+    (not-placed (f k) (k .args .second) (ws k) (ahead k) (q k) (adds-is k) (fits (w .before .before .before)) (free (w .before))
+    (omega (arith, count-is w, c .if3 .taken)))
+
 -- ---- the lock step
 
 lock-step-requires : tie.Need-lock-step-requires
 lock-step-requires c κs =
-    let k = c .before .before .before .before .before .before .before .before in
+    let k = c .before .before .before .before .before .before .before .before .before .before in
     (k .pre .0, (k .pre .1 .0, k .pre .1 .1 .1 .1 .0))
 
-returns-3 : tie.Need-returns-3
-returns-3 c =
+returns-4 : tie.Need-returns-4
+returns-4 c =
     let l = c .before .before in
-    let k = l .before .before .before .before .before .before .before .before .before in
+    let w = l .before .before in
+    let k = w .before .before .before .before .before .before .before .before .before in
     refused k
-    (not-locked (f k) (k .args .second) (ws k) (ahead k) (q k) (adds-is k) (fits (l .before .before .before)) (free (l .before))
-    (sym (lock-not (f k) (q k) (ws k) (sym (not-true (l .lock-step .result .ok) (c .if3 .taken)) ∙ l .lock-step .ensures .0))))
+    (not-locked (f k) (k .args .second) (ws k) (ahead k) (q k) (adds-is k) (fits (w .before .before .before)) (free (w .before))
+    (sym (lock-not (f k) (q k) (ws k) (sym (not-true (l .lock-step .result .ok) (c .if4 .taken)) ∙ l .lock-step .ensures .0))))
 
 limit-requires : tie.Need-limit-requires
 limit-requires c κs = tt
@@ -146,21 +165,18 @@ add-total : tie.Need-add-total
 add-total c =
     record { fits = omega (arith, c .before .start .ensures .1, c .before .before .before .before .before .lock-step .ensures .1 .1) }
 
-word-at-requires : tie.Need-word-at-requires
-word-at-requires c κs = search needs
-
 -- The walk has passed: the total is the law's, and the limit decides.
 whole : (t : tie.After-start) →
     let l = t .before .before .before .before in
-    let k = l .before .before .before .before .before .before .before .before .before in
+    let k = l .before .before .before .before .before .before .before .before .before .before .before in
     let sum = t .start .result + l .lock-step .result .sum in
     (sum ≡ total diskTable (coreOf (f k) 0 (ws k)) (q k))
     × (leb sum (t .before .limit .result) ≡ lockStep diskTable (coreOf (f k) 0 (ws k)) (q k))
 whole t =
     let l = t .before .before .before .before in
-    let k = l .before .before .before .before .before .before .before .before .before in
-    let r = l .before .before .before .before .before in
-    let pass = not-false (l .lock-step .result .ok) (t .before .before .if3 .left) in
+    let k = l .before .before .before .before .before .before .before .before .before .before .before in
+    let r = l .before .before .before .before .before .before .before in
+    let pass = not-false (l .lock-step .result .ok) (t .before .before .if4 .left) in
     let e : t .start .result + l .lock-step .result .sum ≡ total diskTable (coreOf (f k) 0 (ws k)) (q k) =
     (λ j. (t .start .ensures .0 ∙ by-disk r (λ g. startBy g (kindOf diskTable (q k)) (q k .error))) j + l .lock-step .ensures .1 .0 pass j)
     ∙ total-is (f k) (q k) (ws k) in (
@@ -169,46 +185,31 @@ whole t =
           ∙ lock-all (f k) (q k) (ws k) (sym pass ∙ l .lock-step .ensures .0),
     )
 
--- ---- the place
-
-count-is : (w : tie.After-word-at) → let k = w .before .before .before .before .before .before .before .before .before .before .before .before .before .before .before in w .word-at .result ≡ length (ws k)
-count-is w =
-    let k = w .before .before .before .before .before .before .before .before .before .before .before .before .before .before .before in
-    w .word-at .ensures ∙ actives-read (k .args .s .now) ∙ sym (row-length (k .pre .1 .0 .active))
-
-returns-4 : tie.Need-returns-4
-returns-4 c =
-    let w = c .before .before in
-    let t = w .before .before in
+returns-5 : tie.Need-returns-5
+returns-5 c =
+    let t = c .before .before in
     let l = t .before .before .before .before in
-    let k = l .before .before .before .before .before .before .before .before .before in
+    let w = l .before .before in
+    let k = w .before .before .before .before .before .before .before .before .before in
     record {
       says =
           sym (le-leb _ _ (c .if5 .taken))
           ∙ whole t .1
-          ∙ all-else (f k) (k .args .second) (ws k) (ahead k) (q k) (adds-is k) (fits (l .before .before .before)) (free (l .before))
-          (omega (arith, count-is w, c .before .if4 .taken));
+          ∙ all-else (f k) (k .args .second) (ws k) (ahead k) (q k) (adds-is k) (fits (w .before .before .before)) (free (w .before))
+          (omega (arith, count-is w, l .before .if3 .left));
       counts = λ h. whole t .0 ∙ same-total (f k) (k .args .second) (ws k) (ahead k) (q k);
       fails = λ (h : true ≡ false). never-true (t .start .result + l .lock-step .result .sum ≡ 0) (sym h);
     }
 
-returns-5 : tie.Need-returns-5
-returns-5 c =
-    let t = c .before .before .before .before in
-    let l = t .before .before .before .before in
-    let k = l .before .before .before .before .before .before .before .before .before in
-    refused k
-    (not-locked (f k) (k .args .second) (ws k) (ahead k) (q k) (adds-is k) (fits (l .before .before .before)) (free (l .before))
-    (sym (whole t .1) ∙ lt-leb _ _ (c .if5 .left)))
-
 returns-6 : tie.Need-returns-6
 returns-6 c =
-    let w = c .before in
-    let l = w .before .before .before .before .before .before in
-    let k = l .before .before .before .before .before .before .before .before .before in
+    let t = c .before .before in
+    let l = t .before .before .before .before in
+    let w = l .before .before in
+    let k = w .before .before .before .before .before .before .before .before .before in
     refused k
-    (not-placed (f k) (k .args .second) (ws k) (ahead k) (q k) (adds-is k) (fits (l .before .before .before)) (free (l .before))
-    (omega (arith, count-is w, c .if4 .left)))
+    (not-locked (f k) (k .args .second) (ws k) (ahead k) (q k) (adds-is k) (fits (w .before .before .before)) (free (w .before))
+    (sym (whole t .1) ∙ lt-leb _ _ (c .if5 .left)))
 
 pub decide-spec : {M : Type 1} → statement M
 decide-spec =
@@ -221,13 +222,13 @@ decide-spec =
     returns
     barred-requires
     returns-2
-    lock-step-requires
+    word-at-requires
     returns-3
+    lock-step-requires
+    returns-4
     limit-requires
     cast-most
     start-requires
     add-total
-    word-at-requires
-    returns-4
     returns-5
     returns-6)
