@@ -1,10 +1,8 @@
 // A list of at most eight claims: eight places and a count, with every place past the count clear. specs/Rows says what is kept,
 // specs/RowLaws what loops over the places use. Here: what stands in a clear place, and the order of the pass.
 use law::Claim;
-use num::truth::both;
-use num::truth::either;
 ghost use mathlib.Core.Path.{_≡_};
-ghost use Prim.Native.Nat.{_-_, _<_};
+ghost use Prim.Native.Nat.{_+_, _*_};
 ghost use Rattle.law.specs.Calls.{before};
 ghost use Rattle.claims.specs.Rows.{noClaim};
 
@@ -25,12 +23,17 @@ pub fn no_claim() -> Claim
     }
 }
 
-// Whether `x` comes before `y` in the pass: higher priority first, then lower ticket.
+// A priority and a ticket in one number, the priority first.
+fn joined(priority: u32, ticket: u32) -> u64
+    ensures { λ r. ⌜ r ≡ priority * 4_294_967_296 + ticket ⌝ }
+{
+    priority as u64 * 4294967296 + ticket as u64
+}
+
+// Whether `x` comes before `y` in the pass: higher priority first, then lower ticket. One comparison decides, each ticket joined
+// to the other's priority: no branch depends on the priorities.
 pub fn before(x: Claim, y: Claim) -> bool
     ensures { λ r. ⌜ r ≡ before x y ⌝ }
 {
-    either(
-        y.priority < x.priority,
-        both(x.priority == y.priority, x.ticket < y.ticket),
-    )
+    joined(y.priority, x.ticket) < joined(x.priority, y.ticket)
 }
