@@ -22,7 +22,7 @@ static void ask(const char *what) {
     case SB_WAITS: printf("waits, ticket %u", (unsigned)in_item(0, SB_ITEM_TICKET)); break;
     case SB_RELEASED: printf("released"); break;
     case SB_OPENED: printf("opened"); break;
-    default: printf("refused %u, %s", (unsigned)code, stopblocker_refusal(code)); break;
+    default: printf("refused %u, %s\n    %s", (unsigned)code, stopblocker_refusal(code), stopblocker_what_to_do(code)); break;
     }
     printf("\n");
     for (int item = 1; code == SB_RELEASED && item < SB_ITEMS && in_item(item, SB_ITEM_TICKET) != 0; item++) {
