@@ -77,7 +77,7 @@ disk used              MiB off by/limit promised       MiB off by/limit state cl
     assert!(ascii.is_ascii());
 }
 
-/// Bars take what COLUMNS leaves, and at least 8.
+/// Bars take what COLUMNS leaves, and are left out where that is less than 8 for each: where the line is not 87 wide.
 #[test]
 fn as_wide_as_columns_says() {
     let folder = Folder::new("columns");
@@ -85,9 +85,19 @@ fn as_wide_as_columns_says() {
     let wide = drawn(&["show", "--board", &board], Some("131"));
     assert!(wide.contains(&format!("\n   3 {} 40,000 ", "█".repeat(30))), "{wide}");
     assert!(wide.contains(&format!(" {}│{} ", "█".repeat(14), "░".repeat(14))), "{wide}");
-    for columns in ["40", "1"] {
-        let narrow = drawn(&["show", "--board", &board], Some(columns));
-        assert!(narrow.contains("   3 ████████ 40,000     20/1,000 ███│░░░  -300 "), "{narrow}");
+    let least = drawn(&["show", "--board", &board], Some("87"));
+    assert!(least.contains("   3 ████████ 40,000     20/1,000 ███│░░░  -300 "), "{least}");
+    let without = "\
+3 disks are open
+used and promised in MiB
+
+disk   used off by/limit promised off by/limit state clock active waiting
+   3 40,000     20/1,000     -300        5/500     2   107      2       2
+  10 15,000      0/2,000      150          0/0     0     8      0       0
+  40      0          0/0        0          0/0     0     9      0       0
+";
+    for columns in ["86", "40", "1"] {
+        assert_eq!(drawn(&["show", "--board", &board], Some(columns)), without);
     }
     for columns in ["", "0", "wide", "-5"] {
         assert_eq!(drawn(&["show", "--board", &board], Some(columns)), drawn(&["show", "--board", &board], None));

@@ -113,12 +113,12 @@ fn every_kind_of_bad_line() {
         ("open 3 at 1 promised-limit 1", "the line ends", "used-limit MIB".into()),
         ("open 3 at 1 used-limit 1", "the line ends", "promised-limit MIB".into()),
         ("open 3 at 1 limit 1", "\"limit\"", "at, used-limit or promised-limit".into()),
-        ("open 3 at", "the line ends", format!("the number of at, {word}")),
-        ("open 3 at used-limit 1", "\"used-limit\"", format!("the number of at, {word}")),
-        ("open 3 at 4294967296", "\"4294967296\"", format!("the number of at, {word}")),
+        ("open 3 at", "the line ends", format!("a number for at, {word}")),
+        ("open 3 at used-limit 1", "\"used-limit\"", format!("a number for at, {word}")),
+        ("open 3 at 4294967296", "\"4294967296\"", format!("a number for at, {word}")),
         ("open 3 at 1 at 2", "\"at\"", "at only once".into()),
-        ("open 3 at 1 used-limit 1,5", "\"1,5\"", format!("the number of used-limit, {word}")),
-        ("open 3 at 1 used-limit -1", "\"-1\"", format!("the number of used-limit, {word}")),
+        ("open 3 at 1 used-limit 1,5", "\"1,5\"", format!("a number for used-limit, {word}")),
+        ("open 3 at 1 used-limit -1", "\"-1\"", format!("a number for used-limit, {word}")),
         ("claim 3", "the line ends", METHODS.into()),
         ("claim 3 ReadFree limit 1 at 1", "\"ReadFree\"", METHODS.into()),
         ("claim 3 256 at 1", "\"256\"", METHODS.into()),
@@ -128,13 +128,13 @@ fn every_kind_of_bad_line() {
         (
             "claim 3 ReportUsed 2147483648 at 1",
             "\"2147483648\"",
-            "the number of value, -2,147,483,648 to 2,147,483,647".into(),
+            "a number for value, -2,147,483,648 to 2,147,483,647".into(),
         ),
-        ("claim 3 ReportUsed 5.5 at 1", "\"5.5\"", "the number of value, -2,147,483,648 to 2,147,483,647".into()),
+        ("claim 3 ReportUsed 5.5 at 1", "\"5.5\"", "a number for value, -2,147,483,648 to 2,147,483,647".into()),
         ("claim 3 ReportUsed 5 limit 1 at 1", "\"limit\"", write.into()),
         ("claim 3 ReportUsed five at 1", "\"five\"", write.into()),
         ("claim 3 ReportUsed 5 at 1 prioritty 5", "\"prioritty\"", write.into()),
-        ("claim 3 ReportUsed 5 at 1 priority 256", "\"256\"", "the number of priority, 0 to 255".into()),
+        ("claim 3 ReportUsed 5 at 1 priority 256", "\"256\"", "a number for priority, 0 to 255".into()),
         ("claim 3 ReadUsed limit 5 at 1 fresh fresh", "\"fresh\"", "fresh only once".into()),
         ("claim 3 ReadUsed 5 at 1", "\"5\"", "limit, at, priority, fresh, value or measured".into()),
         ("claim 3 ReadUsed own 5 at 1", "\"own\"", "limit, at, priority, fresh, value or measured".into()),
@@ -153,7 +153,7 @@ fn every_kind_of_bad_line() {
     assert_eq!(sb(&["encode"], &text).refused(1), expected);
     assert_eq!(
         sb(&["encode"], b"open 3 at \xff").refused(1),
-        format!("sb encode: line 1: \"\u{fffd}\": expected the number of at, {word}\n")
+        format!("sb encode: line 1: \"\u{fffd}\": expected a number for at, {word}\n")
     );
 }
 
