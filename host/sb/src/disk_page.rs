@@ -6,6 +6,9 @@ use crate::table::{numbers, words, Column, Table};
 use stopblocker::layout::{part, part_at, word_at, CLAIMS};
 use stopblocker::{Board, ClaimView, Disk, Figure, Method};
 
+/// What is said of a disk whose part isn't sound.
+pub const NOT_SOUND: &str = "NOT SOUND: its bytes were changed from outside, claims and releases are refused 14";
+
 const ATTRIBUTES: [Column; 5] =
     [words("attribute"), numbers("value"), numbers("may be off by"), numbers("limit"), numbers("stamp")];
 
@@ -29,8 +32,7 @@ pub fn draw(board: &Board, disk: Disk, sound: bool, style: &Style) -> String {
     };
     let mut text = format!("disk {disk}: clock {}, next ticket {}\n", view.clock(), grouped(view.next_ticket().into()));
     if !sound {
-        let why = "NOT SOUND: its bytes were changed from outside, claims and releases are refused 14; they say:";
-        text += &format!("{}\n", style.warning(why));
+        text += &format!("{}\n", style.warning(&format!("{NOT_SOUND}; they say:")));
     }
 
     let mut attributes = Table::new(&ATTRIBUTES);

@@ -1,6 +1,7 @@
 //! The open disks of a board, each a line.
 
 use crate::bar::Bars;
+use crate::disk_page::NOT_SOUND;
 use crate::number::grouped;
 use crate::style::Style;
 use crate::table::{numbers, words, Column, Table};
@@ -49,8 +50,7 @@ pub fn draw(board: &Board, is_sound: impl Fn(Disk) -> bool, style: &Style) -> St
         if sound.iter().any(|(other, _)| other == disk) {
             text += &lines.next().expect("a line for each sound disk");
         } else {
-            let why = "NOT SOUND: its bytes were changed from outside, claims and releases are refused 14";
-            text += &style.warning(&format!("{:>4} {why}", disk.number()));
+            text += &style.warning(&format!("{:>4} {NOT_SOUND}", disk.number()));
         }
         text.push('\n');
     }
