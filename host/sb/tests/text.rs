@@ -234,3 +234,25 @@ fn round_trip_of_random_records() {
     assert_eq!(text.lines().count(), 6_000);
     assert!(encoded(&text) == records, "the same bytes");
 }
+
+/// Text where records are wanted, and records where text is.
+#[test]
+fn the_wrong_way_round() {
+    let err = sb(&["decode"], PRINTED_TEXT).refused(1);
+    assert_eq!(err, "sb decode: the input is text, and no records; sb encode makes records of it\n");
+    for input in [printed_records(), b"o\0p\0e\0n\0".to_vec()] {
+        let err = sb(&["encode"], input).refused(1);
+        let why = "it begins with a record's mark or holds a zero byte; sb decode reads records";
+        assert_eq!(err, format!("sb encode: the input is no text: {why}\n"));
+    }
+}
+
+/// What a bad word holds does not reach the terminal as it is.
+#[test]
+fn a_bad_word_is_shown_plainly() {
+    let err = sb(&["encode"], format!("\u{1b}[31mopen\n{} 3\n", "x".repeat(41))).refused(1);
+    let long = "x".repeat(40);
+    let expected = "expected open, claim or release";
+    let first = format!("sb encode: line 1: \"\\u{{1b}}[31mopen\": {expected}\n");
+    assert_eq!(err, format!("{first}sb encode: line 2: \"{long}…\": {expected}\n"));
+}
