@@ -128,6 +128,11 @@ disk 3: clock 107, next ticket 8
     let board = day(&folder);
     assert_eq!(drawn(&["show", "--board", &board, "--disk", "3"], None), expected);
     assert_eq!(drawn(&["show", "--disk=4", "--board", &board], None), "disk 4 is closed\n");
+    // The table of the active claims is 84 wide, the one of the waiting ones 79.
+    let close = "  ticket method      priority value error       measured fresh   told amount\n";
+    let narrow = drawn(&["show", "--board", &board, "--disk", "3"], Some("83"));
+    assert!(narrow.contains(close) && narrow.contains("  ticket  method       priority  value  error     measured "));
+    assert_eq!(drawn(&["show", "--board", &board, "--disk", "3"], Some("84")), expected);
     let none = drawn(&["show", "--board", &board, "--disk", "40"], None);
     assert!(none.ends_with("\n0 active\n\n0 waiting\n"), "{none}");
 }

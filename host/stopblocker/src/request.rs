@@ -14,6 +14,9 @@ pub(crate) fn begun(kind: u8, disk: Disk, now: u32) -> [u8; RECORD_BYTES] {
 }
 
 /// Opens a disk: values and amounts 0, stamps and clock = now, next ticket 1, no claims.
+///
+/// Its limits are of errors, not of the disk's size, and stand as long as the board does: a second open is refused 12, and
+/// nothing closes a disk.
 #[derive(Clone, Copy, PartialEq, Eq, Hash, Debug)]
 pub struct Open {
     disk: Disk,
