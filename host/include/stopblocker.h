@@ -212,6 +212,26 @@ static inline void stopblocker_release(uint8_t record[SB_RECORD_BYTES], uint8_t 
     stopblocker_put(record, SB_RECORD_TICKET, ticket);
 }
 
+/* An item of the answer. */
+struct stopblocker_item {
+    uint32_t code;
+    uint32_t ticket;
+    int32_t told;
+    uint32_t amount;
+};
+
+/* Item k, 0 to 8. Item 0 is the call's own; behind a release's stand the grants of its pass, and the first item with ticket
+ * 0 ends them. */
+static inline struct stopblocker_item stopblocker_item_at(const uint8_t answer[SB_ANSWER_BYTES], int k) {
+    const uint8_t *bytes = answer + SB_ITEM_BYTES * k;
+    struct stopblocker_item item;
+    item.code = stopblocker_word(bytes, SB_ITEM_CODE);
+    item.ticket = stopblocker_word(bytes, SB_ITEM_TICKET);
+    item.told = stopblocker_signed(bytes, SB_ITEM_TOLD);
+    item.amount = stopblocker_word(bytes, SB_ITEM_AMOUNT);
+    return item;
+}
+
 /* Whether a disk 0 to 63 is open, and where its part begins. */
 static inline int stopblocker_is_open(const uint8_t *board, uint8_t disk) { return board[disk / 8] >> disk % 8 & 1; }
 
