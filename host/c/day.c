@@ -6,29 +6,25 @@ enum { DISK = 3, PRIORITY = 5 };
 
 static uint8_t board[SB_BOARD_BYTES], record[SB_RECORD_BYTES], answer[SB_ANSWER_BYTES];
 
-static uint32_t in_item(int item, size_t at) { return stopblocker_word(answer, SB_ITEM_BYTES * (size_t)item + at); }
-
-static void say_grant(int item) {
-    printf("granted, ticket %u, told %d, amount %u", (unsigned)in_item(item, SB_ITEM_TICKET),
-           (int)stopblocker_signed(answer, SB_ITEM_BYTES * (size_t)item + SB_ITEM_TOLD), (unsigned)in_item(item, SB_ITEM_AMOUNT));
+static void say_grant(struct stopblocker_item item) {
+    printf("granted, ticket %u, told %d, amount %u\n", (unsigned)item.ticket, (int)item.told, (unsigned)item.amount);
 }
 
 /* The call of the record as it stands, and what it answers. */
 static void ask(const char *what) {
     uint32_t code = step(board, sizeof board, record, sizeof record, answer, sizeof answer);
+    struct stopblocker_item own = stopblocker_item_at(answer, 0);
     printf("%u %s: ", (unsigned)stopblocker_word(record, SB_RECORD_NOW), what);
     switch (code) {
-    case SB_GRANTED: say_grant(0); break;
-    case SB_WAITS: printf("waits, ticket %u", (unsigned)in_item(0, SB_ITEM_TICKET)); break;
-    case SB_RELEASED: printf("released"); break;
-    case SB_OPENED: printf("opened"); break;
-    default: printf("refused %u, %s", (unsigned)code, stopblocker_refusal(code)); break;
+    case SB_GRANTED: say_grant(own); break;
+    case SB_WAITS: printf("waits, ticket %u\n", (unsigned)own.ticket); break;
+    case SB_RELEASED: printf("released\n"); break;
+    case SB_OPENED: printf("opened\n"); break;
+    default: printf("refused %u, %s\n    %s\n", (unsigned)code, stopblocker_refusal(code), stopblocker_what_to_do(code)); break;
     }
-    printf("\n");
-    for (int item = 1; code == SB_RELEASED && item < SB_ITEMS && in_item(item, SB_ITEM_TICKET) != 0; item++) {
+    for (int k = 1; code == SB_RELEASED && k < SB_ITEMS && stopblocker_item_at(answer, k).ticket != 0; k++) {
         printf("    which lets one in: ");
-        say_grant(item);
-        printf("\n");
+        say_grant(stopblocker_item_at(answer, k));
     }
 }
 

@@ -107,10 +107,10 @@ enum {
     SB_RECORD_MEASURED = 12,       /* word, claim: second of measuring */
     SB_RECORD_TICKET = 12,         /* word, release */
     SB_RECORD_VALUE = 16,          /* signed word, claim */
-    SB_RECORD_USED_LIMIT = 16,     /* word, open */
+    SB_RECORD_USED_LIMIT = 16,     /* word, open: the most that used may be off by, not the disk's size */
     SB_RECORD_OWN_ERROR = 20,      /* word, claim of a write */
-    SB_RECORD_STATED_LIMIT = 20,   /* word, claim of a reading */
-    SB_RECORD_PROMISED_LIMIT = 20  /* word, open */
+    SB_RECORD_STATED_LIMIT = 20,   /* word, claim of a reading: the error that it can bear */
+    SB_RECORD_PROMISED_LIMIT = 20  /* word, open: the most that promised may be off by */
 };
 
 /* Places in an item of the answer; item k begins at SB_ITEM_BYTES * k. Unused items are zero. */
@@ -136,10 +136,10 @@ enum {
 
 /* Places in a figure. */
 enum {
-    SB_FIGURE_VALUE = 0, /* signed word */
-    SB_FIGURE_STAMP = 4, /* word */
-    SB_FIGURE_AMOUNT = 8,
-    SB_FIGURE_LIMIT = 12
+    SB_FIGURE_VALUE = 0,  /* signed word */
+    SB_FIGURE_STAMP = 4,  /* word: second of measuring of the last set that was released, or of the open */
+    SB_FIGURE_AMOUNT = 8, /* word: how much error it carries */
+    SB_FIGURE_LIMIT = 12  /* word: the most that its amount may be, from the open */
 };
 
 /* Places in a slot. */
@@ -180,7 +180,8 @@ static inline void stopblocker_begin(uint8_t record[SB_RECORD_BYTES], uint8_t ki
     stopblocker_put(record, SB_RECORD_NOW, now);
 }
 
-/* The record of an open, of a write, of a reading, of a release. */
+/* The record of an open, of a write, of a reading, of a release. The limits of an open are of errors, in MiB: the desk
+ * does not know how large a disk is. They stand as long as the board does. */
 static inline void stopblocker_open(uint8_t record[SB_RECORD_BYTES], uint8_t disk, uint32_t now, uint32_t used_limit, uint32_t promised_limit) {
     stopblocker_begin(record, SB_OPEN, disk, now);
     stopblocker_put(record, SB_RECORD_USED_LIMIT, used_limit);
@@ -211,6 +212,26 @@ static inline void stopblocker_release(uint8_t record[SB_RECORD_BYTES], uint8_t 
     stopblocker_put(record, SB_RECORD_TICKET, ticket);
 }
 
+/* An item of the answer. */
+struct stopblocker_item {
+    uint32_t code;
+    uint32_t ticket;
+    int32_t told;
+    uint32_t amount;
+};
+
+/* Item k, 0 to 8. Item 0 is the call's own; behind a release's stand the grants of its pass, and the first item with ticket
+ * 0 ends them. */
+static inline struct stopblocker_item stopblocker_item_at(const uint8_t answer[SB_ANSWER_BYTES], int k) {
+    const uint8_t *bytes = answer + SB_ITEM_BYTES * k;
+    struct stopblocker_item item;
+    item.code = stopblocker_word(bytes, SB_ITEM_CODE);
+    item.ticket = stopblocker_word(bytes, SB_ITEM_TICKET);
+    item.told = stopblocker_signed(bytes, SB_ITEM_TOLD);
+    item.amount = stopblocker_word(bytes, SB_ITEM_AMOUNT);
+    return item;
+}
+
 /* Whether a disk 0 to 63 is open, and where its part begins. */
 static inline int stopblocker_is_open(const uint8_t *board, uint8_t disk) { return board[disk / 8] >> disk % 8 & 1; }
 
@@ -234,6 +255,26 @@ static inline const char *stopblocker_refusal(uint32_t code) {
     case SB_REFUSED_NO_TICKET: return "a claim with no ticket left";
     case SB_REFUSED_FULL: return "a claim that would wait while 8 wait";
     case SB_REFUSED_TICKET: return "release of a ticket neither active nor waiting";
+    default: return "";
+    }
+}
+
+/* What a caller can do about it; an empty text for a code that is no refusal. */
+static inline const char *stopblocker_what_to_do(uint32_t code) {
+    switch (code) {
+    case SB_REFUSED_LENGTH: return "lend a board of 49,216 bytes and an answer buffer of 144";
+    case SB_REFUSED_RECORD: return "the sender's fault, or bytes lost on the way; sb decode says which byte is wrong";
+    case SB_REFUSED_DISK: return "a board has disks 0 to 63; more disks need a second board";
+    case SB_REFUSED_OPEN: return "it is open already, go on with claims; its limits stay as the first open set them";
+    case SB_REFUSED_CLOSED: return "open the disk first";
+    case SB_REFUSED_UNSOUND: return "its bytes were changed from outside: put back a copy of the board, or clear its open bit and open it anew";
+    case SB_REFUSED_CLOCK: return "an accepted call was later than this one: call again with the present second; all callers need one clock";
+    case SB_REFUSED_METHOD: return "methods are 0 ReportUsed, 1 AddPromised, 2 SetPromised, 3 SetState, 4 ReadUsed, 5 ReadLoad, 6 ReadState";
+    case SB_REFUSED_FIELD: return "the sender's fault; sb explain --records names the field";
+    case SB_REFUSED_OWN_ERROR: return "it could never be granted: measure better, or open the disk with a larger limit on the next board";
+    case SB_REFUSED_NO_TICKET: return "all 999,999 tickets of this disk are taken: begin a new board";
+    case SB_REFUSED_FULL: return "try again after a release, or on a disk that is less wanted";
+    case SB_REFUSED_TICKET: return "it was released before, or never was; nothing is held under it";
     default: return "";
     }
 }

@@ -10,7 +10,7 @@ fn main() {
     println!("cargo:rerun-if-changed={}", archive.display());
     if !archive.exists() {
         let built = Command::new(host.join("build")).status().expect("host/build can be run");
-        assert!(built.success(), "host/build: {built}");
+        assert!(built.success(), "host/build could not make {}, which this crate links: {built}", archive.display());
     }
     println!("cargo:rustc-link-search=native={}", folder.display());
     println!("cargo:rustc-link-lib=static=stopblocker");

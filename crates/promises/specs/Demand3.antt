@@ -33,24 +33,11 @@ use Rattle.promises.specs.RefusalLaws.{says-formed}
 use Rattle.promises.specs.Histories.{Call, BytesIn, stepBy, saidBy, begun, lived}
 use Rattle.promises.specs.LifeLaws.{lifeOf, life-sound, Stands, shut, lives, whole-begun, whole-lived}
 
--- ---- what is said is what the answer buffer shows
+-- ---- first half: a reading can rely on what it was told, as long as it is held
 
--- The call returns its own answer's code; its own answer and the grants of its pass stand in the buffer, all else zero.
-pub answer-shows : (b : List ℕ) (k : Call) → length b ≡ boardBytes → length (k .buffer) ≡ answerSize →
-    (stepBy b k .code ≡ codeOf (ownOf (saidBy b k)))
-    × (stepBy b k .answer ≡ answerBytes (ownOf (saidBy b k)) (grantsOf (saidBy b k)))
-unfolding stepOf saidBy
-answer-shows b k n m = rw (eq-eqb (length b) boardBytes n, eq-eqb (length (k .buffer)) answerSize m) (refl, refl)
-
--- An item that grants is shown with its ticket, what it was told, and its amount.
-pub grant-shows : (i : Item) → i .code ≡ 0 → answerOf i ≡ A.Granted (i .ticket) (i .told) (i .amount)
-unfolding answerOf
-grant-shows i e = rw e
-
--- ---- first half
-
--- The item granted a reading, and the reading is still active on the disk that the part holds: what it was told and the present sum
--- of the same figures differ by no more than its stated limit less the error that those figures carried at that grant.
+-- Of a part p and an item i that was said on its disk: where i granted a reading, and the reading r is still active, what it was told and
+-- the present sum of the same figures differ by no more than its stated limit (`error`) less the error that those figures carried at that
+-- grant. Said as a sum: the difference and the carried error together are within the limit.
 abbrev pub Relies : List ℕ → Item → Type 0
 Relies p i =
     i .code ≡ 0 →
@@ -59,7 +46,7 @@ Relies p i =
     dist (i .told) (present (held p .core .figures) m) + i .carried ≤ r .error)
     (held p .core .active)
 
--- Any calls from the empty board, refused ones and calls on other disks among them: on every disk it holds for all that was said.
+-- For any calls from the empty board, refused ones and calls on other disks among them, and any disk d: it holds for all that was said on d.
 pub told-bound : (ks : List Call) → All BytesIn ks → (d : ℕ) → d < disks →
     All (Relies (partOf (lived begun ks .board) d)) (lived begun ks .past d)
 told-bound ks bs d h = go (whole-lived begun ks bs whole-begun .each d h)
@@ -82,7 +69,21 @@ granted-once ks bs d h = go (whole-lived begun ks bs whole-begun .each d h)
     go (shut o e) = subst (Pairs Once) (sym e) tt
     go (lives o l p e) = subst (Pairs Once) (sym e) (law-granted-once diskTable (l .now) (l .limit0) (l .limit1) (l .calls))
 
--- ---- second half
+-- ---- and what was said is what the answer buffer showed
+
+-- The call returns its own answer's code; its own answer and the grants of its pass stand in the buffer, all else zero.
+pub answer-shows : (b : List ℕ) (k : Call) → length b ≡ boardBytes → length (k .buffer) ≡ answerSize →
+    (stepBy b k .code ≡ codeOf (ownOf (saidBy b k)))
+    × (stepBy b k .answer ≡ answerBytes (ownOf (saidBy b k)) (grantsOf (saidBy b k)))
+unfolding stepOf saidBy
+answer-shows b k n m = rw (eq-eqb (length b) boardBytes n, eq-eqb (length (k .buffer)) answerSize m) (refl, refl)
+
+-- An item that grants is shown with its ticket, what it was told, and its amount.
+pub grant-shows : (i : Item) → i .code ≡ 0 → answerOf i ≡ A.Granted (i .ticket) (i .told) (i .amount)
+unfolding answerOf
+grant-shows i e = rw e
+
+-- ---- second half: no reader pays for another's limit
 
 -- A well-formed claim of a reading of mask m: a reading's method, no second of measuring, no value, a limit in range.
 pub record AsksReading (r : List ℕ) (m : ℕ) : Type 0 where
@@ -100,9 +101,11 @@ asks : (r : List ℕ) (m : ℕ) → AsksReading r m → Reading diskTable (asked
 unfolding askedOf diskTable
 asks r m h = record { method = h .method; kind = h .reading; value = h .value; measured = h .measured; stated = h .stated }
 
--- After any calls from the empty board, a reading on an open disk is granted in its own call under exactly the mission's conditions
--- (`Free`); it is told the present sum, and its amount is the error that the figures carry.
+-- After any calls ks from the empty board comes the call k, a reading on an open disk. Under exactly the mission's conditions (`Free`, in
+-- law's GrantedAtOnce: the clock, a ticket, a place, no writer of what it reads active or ahead, a carried error that it bears, fresh figures
+-- if it asked for that) it is granted in its own call: code 0, told the present sum, its amount the error that the figures carry.
 module _ (ks : List Call) (bs : All BytesIn ks) (k : Call) (room : length (k .buffer) ≡ 144) where
+  -- The board that the calls have left, the record, and the record's disk as the board has it.
   abbrev b : List ℕ
   b = lived begun ks .board
 

@@ -21,7 +21,7 @@ pub record Call : Type 0 where
   pub asks : List ℕ
   pub buffer : List ℕ
 
--- The record is bytes.
+-- The record is bytes: each of its numbers is below 256.
 abbrev pub BytesIn : Call → Type 0
 BytesIn k = Bytes (k .asks)
 
@@ -34,6 +34,7 @@ unfoldable pub saidBy : List ℕ → Call → Said
 saidBy b k =
     cond (eqb (length b) boardBytes && eqb (length (k .buffer)) answerSize) (tellOf b (k .asks) .said) (refuses R.Length)
 
+-- A refusal has no items.
 abbrev pub itemsIn : Said → List Item
 itemsIn (refuses r) = []
 itemsIn (tells items) = items
@@ -47,9 +48,11 @@ pub record History : Type 0 where
   pub board : List ℕ
   pub past : ℕ → List Item
 
+-- It begins with the empty board, and nothing said.
 abbrev pub begun : History
 begun = record { board = emptyBoard; past = λ d. [] }
 
+-- One call more: the board that it leaves, and what it says behind what was said.
 abbrev pub after : History → Call → History
 after h k = record { board = stepBy (h .board) k .bytes; past = λ d. h .past d ++ itemsOn (h .board) k d }
 

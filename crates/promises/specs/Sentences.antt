@@ -1,4 +1,4 @@
--- Refusals 9 to 21 as 01's sentences over bytes, in the order they apply.
+-- Refusals 9 to 21 as 01's sentences over bytes, in the order they apply. The list at the end is 01's table.
 use Prim.Native.Nat.{ℕ, _≤_, _<_}
 use mathlib.Core.Bool.{true, false, cond}
 use mathlib.Core.List.{List, _∷_}
@@ -26,6 +26,7 @@ abbrev pub KindFits : List ℕ → Type 0
 KindFits r =
     ((kindOf r ≡ 1) × Unused r 4 7 × Unused r 12 16) ⊎ ((kindOf r ≡ 2) ⊎ ((kindOf r ≡ 3) × Unused r 4 7 × Unused r 16 24))
 
+-- What 10 asks of a record: all of these.
 pub record WellFormed (r : List ℕ) : Type 0 where
   pub size : length r ≡ 24
   pub mark : (byteAt r 0 ≡ 0x52) × (byteAt r 1 ≡ 0x42)
@@ -49,8 +50,8 @@ ruleSentences b r =
     (openSentences (usedLimit r) (promisedLimit r))
     (sentencesOf diskTable (held (partOf b (diskOf r))) (callOf r))
 
--- Board or answer buffer of another length; a record that is not well formed; a disk above 63; open of an open disk; claim or
--- release on a closed disk; a part that is not sound (not for open).
+-- 9 board or answer buffer of another length; 10 a record that is not well formed; 11 a disk above 63; 12 open of an open disk; 13 claim
+-- or release on a closed disk; 14 a part that is not sound (not for open); then 15 to 21.
 abbrev pub sentences : List ℕ → List ℕ → List ℕ → List Sentence
 sentences b r a =
     record { number = 9; says = (length b ≡ 49_216) × (length a ≡ 144) → ⊥ }

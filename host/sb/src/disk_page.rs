@@ -6,6 +6,9 @@ use crate::table::{numbers, words, Column, Table};
 use stopblocker::layout::{part, part_at, word_at, CLAIMS};
 use stopblocker::{Board, ClaimView, Disk, Figure, Method};
 
+/// What is said of a disk whose part isn't sound.
+pub const NOT_SOUND: &str = "NOT SOUND: its bytes were changed from outside, claims and releases are refused 14";
+
 const ATTRIBUTES: [Column; 5] =
     [words("attribute"), numbers("value"), numbers("may be off by"), numbers("limit"), numbers("stamp")];
 
@@ -29,8 +32,7 @@ pub fn draw(board: &Board, disk: Disk, sound: bool, style: &Style) -> String {
     };
     let mut text = format!("disk {disk}: clock {}, next ticket {}\n", view.clock(), grouped(view.next_ticket().into()));
     if !sound {
-        let why = "NOT SOUND: its bytes were changed from outside, claims and releases are refused 14; they say:";
-        text += &format!("{}\n", style.warning(why));
+        text += &format!("{}\n", style.warning(&format!("{NOT_SOUND}; they say:")));
     }
 
     let mut attributes = Table::new(&ATTRIBUTES);
@@ -39,12 +41,12 @@ pub fn draw(board: &Board, disk: Disk, sound: bool, style: &Style) -> String {
     let state = view.state();
     let code = grouped(state.code.into());
     attributes.add(vec!["state".to_string(), code, "0".to_string(), "0".to_string(), state.stamp.to_string()]);
-    put(&mut text, &attributes);
+    put(&mut text, &attributes, style);
 
     let at = part_at(usize::from(disk.number()));
     let count = |place| word_at(board.as_bytes(), at + place);
-    claims(&mut text, "active", count(part::ACTIVE_COUNT), view.active().collect());
-    claims(&mut text, "waiting", count(part::WAITING_COUNT), view.waiting().collect());
+    claims(&mut text, style, "active", count(part::ACTIVE_COUNT), view.active().collect());
+    claims(&mut text, style, "waiting", count(part::WAITING_COUNT), view.waiting().collect());
     text
 }
 
@@ -53,7 +55,7 @@ fn figure(name: &str, figure: &Figure) -> Vec<String> {
     vec![name.to_string(), grouped(value.into()), grouped(amount.into()), grouped(limit.into()), stamp.to_string()]
 }
 
-fn claims(text: &mut String, which: &str, count: u32, claims: Vec<ClaimView>) {
+fn claims(text: &mut String, style: &Style, which: &str, count: u32, claims: Vec<ClaimView>) {
     *text += &format!("\n{} {which}", grouped(count.into()));
     if count as usize > CLAIMS {
         *text += &format!(", and a part has room for {CLAIMS}");
@@ -62,7 +64,7 @@ fn claims(text: &mut String, which: &str, count: u32, claims: Vec<ClaimView>) {
     if !claims.is_empty() {
         let mut table = Table::new(&CLAIM);
         claims.iter().for_each(|claim| table.add(cells(claim, which == "active")));
-        put(text, &table);
+        put(text, &table, style);
     }
 }
 
@@ -85,8 +87,11 @@ fn cells(claim: &ClaimView, active: bool) -> Vec<String> {
     ]
 }
 
-fn put(text: &mut String, table: &Table) {
-    for line in table.lines(2) {
-        *text += &format!("  {line}\n");
+/// Columns stand close together where there is no room for more.
+fn put(text: &mut String, table: &Table, style: &Style) {
+    const INDENT: usize = 2;
+    let gap = if INDENT + table.width(2) <= style.width { 2 } else { 1 };
+    for line in table.lines(gap) {
+        *text += &format!("{:INDENT$}{line}\n", "");
     }
 }

@@ -13,30 +13,24 @@ pub fn of(refusal: Refusal, asked: Option<&Result<Record, String>>) -> String {
     match (refusal, asked) {
         (Refusal::Record, Some(Err(why))) => why.clone(),
         (Refusal::Field, Some(Ok(record))) => out_of_range(record).join("; "),
-        _ => general(refusal).to_string(),
+        (Refusal::OwnError, Some(Ok(Record::Claim(claim)))) => of_own_error(claim),
+        _ => refusal.what_to_do().to_string(),
     }
 }
 
-fn general(refusal: Refusal) -> &'static str {
-    match refusal {
-        Refusal::Length => "lend a board of 49,216 bytes and an answer buffer of 144",
-        Refusal::Record => "the sender's fault, or bytes lost on the way; sb decode says what is wrong with a record",
-        Refusal::Disk => "a board has disks 0 to 63",
-        Refusal::Open => "somebody has opened it: go on with claims",
-        Refusal::Closed => "open the disk first",
-        Refusal::Unsound => {
-            "its bytes were changed from outside; no claim or release on it goes until they are put right"
-        }
-        Refusal::Clock => "an accepted call was later than this one; send it again with the present second",
-        Refusal::Method => {
-            "methods are 0 ReportUsed, 1 AddPromised, 2 SetPromised, 3 SetState, 4 ReadUsed, 5 ReadLoad, 6 ReadState"
-        }
-        Refusal::Field => "the sender's fault; sb explain --records names the field",
-        Refusal::OwnError => "measure better: with this own error it could never be granted",
-        Refusal::NoTicket => "all 999,999 tickets of this disk are taken: begin a new board",
-        Refusal::Full => "try again later, or on a disk that is less wanted",
-        Refusal::Ticket => "it was released before, or never was",
+/// Why a write's own error exceeds its attribute's limit, which an open has set, but for the state's.
+fn of_own_error(claim: &Claim) -> String {
+    let own = grouped(claim.error.into());
+    match claim.known_method() {
+        Some(Method::SetState) => format!("a state has no error: own is 0, not {own}"),
+        Some(Method::ReportUsed) => above_limit(&own, "used"),
+        _ => above_limit(&own, "promised"),
     }
+}
+
+fn above_limit(own: &str, attribute: &str) -> String {
+    let todo = Refusal::OwnError.what_to_do();
+    format!("the own error {own} is above the limit that the open gave {attribute}; {todo}")
 }
 
 /// Every field of a record that refusal 17 looks at and finds out of range.

@@ -46,7 +46,7 @@ fn main() -> ExitCode {
     let rest: Vec<OsString> = words.collect();
     let name = first.as_deref().unwrap_or("");
     let ended = match name {
-        "--help" | "-h" => print(HELP.as_bytes()),
+        "--help" | "-h" | "help" => print(HELP.as_bytes()),
         "--version" | "-V" => print(concat!("sb ", env!("CARGO_PKG_VERSION"), "\n").as_bytes()),
         _ => match COMMANDS.iter().find(|command| command.name == name) {
             Some(command) => run(command, &rest),

@@ -1,12 +1,13 @@
 //! The open disks of a board, each a line.
 
 use crate::bar::Bars;
+use crate::disk_page::NOT_SOUND;
 use crate::number::grouped;
 use crate::style::Style;
 use crate::table::{numbers, words, Column, Table};
 use stopblocker::{Board, Disk, DiskView, Figure};
 
-const COLUMNS: [Column; 11] = [
+const WITH_BARS: [Column; 11] = [
     numbers("disk"),
     words("used"),
     numbers("MiB"),
@@ -19,10 +20,19 @@ const COLUMNS: [Column; 11] = [
     numbers("active"),
     numbers("waiting"),
 ];
-const USED_BAR: usize = 1;
-const PROMISED_BAR: usize = 4;
+const WITHOUT_BARS: [Column; 9] = [
+    numbers("disk"),
+    numbers("used"),
+    numbers("off by/limit"),
+    numbers("promised"),
+    numbers("off by/limit"),
+    numbers("state"),
+    numbers("clock"),
+    numbers("active"),
+    numbers("waiting"),
+];
 const GAP: usize = 1;
-/// Bars are no shorter, even where the line grows longer than the drawing is wide.
+/// Where there is no room for bars of this many characters there are none.
 const LEAST_BAR: usize = 8;
 
 /// Draws the open disks; `is_sound` says which of them the desk finds sound.
@@ -40,8 +50,7 @@ pub fn draw(board: &Board, is_sound: impl Fn(Disk) -> bool, style: &Style) -> St
         if sound.iter().any(|(other, _)| other == disk) {
             text += &lines.next().expect("a line for each sound disk");
         } else {
-            let why = "NOT SOUND: its bytes were changed from outside, claims and releases are refused 14";
-            text += &style.warning(&format!("{:>4} {why}", disk.number()));
+            text += &style.warning(&format!("{:>4} {NOT_SOUND}", disk.number()));
         }
         text.push('\n');
     }
@@ -55,43 +64,57 @@ fn sound_lines(disks: &[(Disk, DiskView)], style: &Style, text: &mut String) -> 
     }
     let used: Vec<i32> = disks.iter().map(|(_, view)| view.used().value).collect();
     let promised: Vec<i32> = disks.iter().map(|(_, view)| view.promised().value).collect();
-    let table = |bar: usize| {
-        let used_bars = Bars::of(&used, bar, style);
-        let promised_bars = Bars::of(&promised, bar, style);
-        let mut table = Table::new(&COLUMNS);
-        for (disk, view) in disks {
-            table.add(cells(*disk, view, &used_bars, &promised_bars));
+    let bars = |width: usize| (Bars::of(&used, width, style), Bars::of(&promised, width, style));
+    let shortest = with_bars(disks, &bars(LEAST_BAR)).width(GAP);
+    let (scale, table) = match style.width.checked_sub(shortest) {
+        Some(room) => {
+            let bars = bars(LEAST_BAR + room / 2);
+            (scale(&bars), with_bars(disks, &bars))
         }
-        (table, used_bars.full(), promised_bars.full())
+        None => ("used and promised in MiB\n".to_string(), without_bars(disks)),
     };
-    let (shortest, full_used, full_promised) = table(LEAST_BAR);
-    let others: usize = shortest.widths().iter().sum::<usize>() + GAP * (COLUMNS.len() - 1)
-        - shortest.widths()[USED_BAR]
-        - shortest.widths()[PROMISED_BAR];
-    let bar = (style.width.saturating_sub(others) / 2).max(LEAST_BAR);
-    let scale: Vec<String> = [(full_used, "used"), (full_promised, "promised")]
+    let mut lines = table.lines(GAP).into_iter();
+    *text += &format!("{scale}\n{}\n", lines.next().expect("a heading"));
+    lines.collect()
+}
+
+fn scale((used, promised): &(Bars, Bars)) -> String {
+    let full: Vec<String> = [(used.full(), "used"), (promised.full(), "promised")]
         .into_iter()
         .filter(|(full, _)| *full != 0)
         .map(|(full, name)| format!("{} MiB {name}", grouped(full.into())))
         .collect();
-    if !scale.is_empty() {
-        *text += &format!("a full bar is {}\n", scale.join(", "));
+    if full.is_empty() {
+        String::new()
+    } else {
+        format!("a full bar is {}\n", full.join(", "))
     }
-    text.push('\n');
-    let mut lines = table(bar).0.lines(GAP).into_iter();
-    *text += &lines.next().expect("a heading");
-    text.push('\n');
-    lines.collect()
 }
 
-fn cells(disk: Disk, view: &DiskView, used_bars: &Bars, promised_bars: &Bars) -> Vec<String> {
+fn with_bars(disks: &[(Disk, DiskView)], (used, promised): &(Bars, Bars)) -> Table {
+    let mut table = Table::new(&WITH_BARS);
+    for (disk, view) in disks {
+        let mut cells = cells(*disk, view);
+        cells.insert(3, promised.draw(view.promised().value));
+        cells.insert(1, used.draw(view.used().value));
+        table.add(cells);
+    }
+    table
+}
+
+fn without_bars(disks: &[(Disk, DiskView)]) -> Table {
+    let mut table = Table::new(&WITHOUT_BARS);
+    disks.iter().for_each(|(disk, view)| table.add(cells(*disk, view)));
+    table
+}
+
+/// The cells without bars.
+fn cells(disk: Disk, view: &DiskView) -> Vec<String> {
     let (used, promised) = (view.used(), view.promised());
     vec![
         disk.to_string(),
-        used_bars.draw(used.value),
         grouped(used.value.into()),
         error(&used),
-        promised_bars.draw(promised.value),
         grouped(promised.value.into()),
         error(&promised),
         view.state().code.to_string(),

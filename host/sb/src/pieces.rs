@@ -12,9 +12,14 @@ pub struct Piece {
     pub record: Result<Record, String>,
 }
 
-/// Pieces of either form. Bytes that begin with the mark or hold a zero byte are records, all others are text.
+/// Bytes that begin with the mark or hold a zero byte are records, all others are text.
+pub fn are_records(bytes: &[u8]) -> bool {
+    bytes.starts_with(&MARK) || bytes.contains(&0)
+}
+
+/// Pieces of either form.
 pub fn of_either(bytes: &[u8]) -> Result<Vec<Piece>, Ending> {
-    if bytes.starts_with(&MARK) || bytes.contains(&0) {
+    if are_records(bytes) {
         Ok(of_records(bytes))
     } else {
         of_text(bytes)

@@ -135,7 +135,7 @@ impl Given {
                 Some(range) => {
                     let expected = format!("{} to {}", number::grouped(range.0), number::grouped(range.1));
                     let number = if bare { Some(word) } else { words.next() };
-                    in_range(number, range, &format!("the number of {}, {expected}", field.0))?
+                    in_range(number, range, &format!("a number for {}, {expected}", field.0))?
                 }
                 None => 1,
             };

@@ -1,7 +1,7 @@
 //! A well-formed record, whatever it asks: a disk above 63, a method above 6 or a field out of range is for the desk to
 //! refuse. So it is wider than the crate's requests, which cannot ask all of that.
 
-use stopblocker::layout::{put_signed, put_word, record as at, signed_at, word_at, MARK, RECORD_BYTES};
+use stopblocker::layout::{begun, put_signed, put_word, record as at, signed_at, word_at, MARK, RECORD_BYTES};
 use stopblocker::Method;
 
 #[derive(Clone, Copy, PartialEq, Eq, Debug)]
@@ -102,15 +102,6 @@ impl Record {
             }
         }
     }
-}
-
-fn begun(kind: u8, disk: u8, now: u32) -> [u8; RECORD_BYTES] {
-    let mut bytes = [0; RECORD_BYTES];
-    bytes[..2].copy_from_slice(&MARK);
-    bytes[at::KIND] = kind;
-    bytes[at::DISK] = disk;
-    put_word(&mut bytes, at::NOW, now);
-    bytes
 }
 
 fn unused(bytes: &[u8], places: &[usize]) -> Result<(), String> {

@@ -32,8 +32,12 @@ impl Table {
         self.rows.push(cells);
     }
 
-    /// How wide each column is.
-    pub fn widths(&self) -> Vec<usize> {
+    /// How wide its lines are, with `gap` spaces between columns.
+    pub fn width(&self, gap: usize) -> usize {
+        self.widths().iter().sum::<usize>() + gap * (self.columns.len() - 1)
+    }
+
+    fn widths(&self) -> Vec<usize> {
         let wide = |text: &str| text.chars().count();
         (0..self.columns.len())
             .map(|k| self.rows.iter().map(|row| wide(&row[k])).fold(wide(self.columns[k].heading), usize::max))

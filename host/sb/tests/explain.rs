@@ -23,23 +23,21 @@ record 4, disk 3: ticket 3 waits, tried again at each release
 record 5, disk 3: released ticket 2
   + record 5: ticket 3 granted, disk 3, told 0, may be off by 600
 record 6, disk 3: refused 21, release of a ticket neither active nor waiting
-    hint: it was released before, or never was
+    hint: it was released before, or never was; nothing is held under it
 record 7, disk 3: refused 15, now below the disk's clock
-    hint: an accepted call was later than this one; send it again with the present second
+    hint: an accepted call was later than this one: call again with the present second; all callers need one clock
 ";
     assert_eq!(sb(&["explain"], PRINTED_LINES).text(), without);
 }
 
-/// Each with 01's sentence, which the crate has, and a hint.
+/// Each with 01's sentence and what to do, which the crate has.
 #[test]
 fn every_refusal() {
     for refusal in Refusal::ALL {
         let number = refusal.number();
         let said = sb(&["explain"], format!("1 3 {number} 0 0 0\n")).text();
         let who = if number == 10 { "record 1" } else { "record 1, disk 3" };
-        let (first, hint) = said.split_once('\n').unwrap();
-        assert_eq!(first, format!("{who}: refused {number}, {refusal}"));
-        assert!(hint.starts_with("    hint: ") && hint.len() > 20, "{hint}");
+        assert_eq!(said, format!("{who}: refused {number}, {refusal}\n    hint: {}\n", refusal.what_to_do()));
     }
 }
 
@@ -51,9 +49,12 @@ open 3 at 0 used-limit 2,000,000,001 promised-limit 4,000,000,000
 claim 3 ReportUsed 1,000,000,001 own 2,000,000,001 measured 8 at 7 fresh
 claim 3 SetState 256 at 7
 claim 3 ReadUsed limit 3,000,000,000 value -1 measured 2 at 7
+claim 3 SetState 5 own 1 at 7
+claim 3 SetPromised 5 own 1,001 at 7
 ";
     let text = folder.with("text", text);
-    let said = sb(&["explain", "--records", &text], "1 3 17 0 0 0\n2 3 17 0 0 0\n3 3 17 0 0 0\n4 3 17 0 0 0\n").text();
+    let lines: String = (1..=6).map(|n| format!("{n} 3 {} 0 0 0\n", if n > 4 { 18 } else { 17 })).collect();
+    let said = sb(&["explain", "--records", &text], lines).text();
     let hints: Vec<&str> = said.lines().filter_map(|line| line.strip_prefix("    hint: ")).collect();
     assert_eq!(
         hints,
@@ -65,6 +66,9 @@ claim 3 ReadUsed limit 3,000,000,000 value -1 measured 2 at 7
             "a state is 0 to 255, not 256",
             "a reading has value 0, not -1; a reading has second of measuring 0, not 2; \
              the stated limit 3,000,000,000 is above 2,000,000,000",
+            "a state has no error: own is 0, not 1",
+            "the own error 1,001 is above the limit that the open gave promised; it could never be granted: \
+             measure better, or open the disk with a larger limit on the next board",
         ]
     );
     let records = folder.with("records", [printed_records(), vec![0x52, 0x42, 1]].concat());

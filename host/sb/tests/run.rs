@@ -57,9 +57,10 @@ record 15, disk 9: released ticket 3
   + record 15: ticket 6 granted, disk 9 promised may now be off by 0 MiB
 record 16, disk 9: ticket 9 granted, told state: 4
 record 17, disk 9: refused 18, a write whose own error exceeds its attribute's limit
-    hint: measure better: with this own error it could never be granted
+    hint: the own error 11 is above the limit that the open gave used; it could never be granted: measure better, \
+or open the disk with a larger limit on the next board
 record 18, disk 64: refused 11, disk above 63
-    hint: a board has disks 0 to 63
+    hint: a board has disks 0 to 63; more disks need a second board
 ";
     assert_eq!(sb(&["run"], text).text(), words);
 }

@@ -77,7 +77,7 @@ disk used              MiB off by/limit promised       MiB off by/limit state cl
     assert!(ascii.is_ascii());
 }
 
-/// Bars take what COLUMNS leaves, and at least 8.
+/// Bars take what COLUMNS leaves, and are left out where that is less than 8 for each: where the line is not 87 wide.
 #[test]
 fn as_wide_as_columns_says() {
     let folder = Folder::new("columns");
@@ -85,9 +85,19 @@ fn as_wide_as_columns_says() {
     let wide = drawn(&["show", "--board", &board], Some("131"));
     assert!(wide.contains(&format!("\n   3 {} 40,000 ", "█".repeat(30))), "{wide}");
     assert!(wide.contains(&format!(" {}│{} ", "█".repeat(14), "░".repeat(14))), "{wide}");
-    for columns in ["40", "1"] {
-        let narrow = drawn(&["show", "--board", &board], Some(columns));
-        assert!(narrow.contains("   3 ████████ 40,000     20/1,000 ███│░░░  -300 "), "{narrow}");
+    let least = drawn(&["show", "--board", &board], Some("87"));
+    assert!(least.contains("   3 ████████ 40,000     20/1,000 ███│░░░  -300 "), "{least}");
+    let without = "\
+3 disks are open
+used and promised in MiB
+
+disk   used off by/limit promised off by/limit state clock active waiting
+   3 40,000     20/1,000     -300        5/500     2   107      2       2
+  10 15,000      0/2,000      150          0/0     0     8      0       0
+  40      0          0/0        0          0/0     0     9      0       0
+";
+    for columns in ["86", "40", "1"] {
+        assert_eq!(drawn(&["show", "--board", &board], Some(columns)), without);
     }
     for columns in ["", "0", "wide", "-5"] {
         assert_eq!(drawn(&["show", "--board", &board], Some(columns)), drawn(&["show", "--board", &board], None));
@@ -118,6 +128,11 @@ disk 3: clock 107, next ticket 8
     let board = day(&folder);
     assert_eq!(drawn(&["show", "--board", &board, "--disk", "3"], None), expected);
     assert_eq!(drawn(&["show", "--disk=4", "--board", &board], None), "disk 4 is closed\n");
+    // The table of the active claims is 84 wide, the one of the waiting ones 79.
+    let close = "  ticket method      priority value error       measured fresh   told amount\n";
+    let narrow = drawn(&["show", "--board", &board, "--disk", "3"], Some("83"));
+    assert!(narrow.contains(close) && narrow.contains("  ticket  method       priority  value  error     measured "));
+    assert_eq!(drawn(&["show", "--board", &board, "--disk", "3"], Some("84")), expected);
     let none = drawn(&["show", "--board", &board, "--disk", "40"], None);
     assert!(none.ends_with("\n0 active\n\n0 waiting\n"), "{none}");
 }

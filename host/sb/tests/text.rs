@@ -113,12 +113,12 @@ fn every_kind_of_bad_line() {
         ("open 3 at 1 promised-limit 1", "the line ends", "used-limit MIB".into()),
         ("open 3 at 1 used-limit 1", "the line ends", "promised-limit MIB".into()),
         ("open 3 at 1 limit 1", "\"limit\"", "at, used-limit or promised-limit".into()),
-        ("open 3 at", "the line ends", format!("the number of at, {word}")),
-        ("open 3 at used-limit 1", "\"used-limit\"", format!("the number of at, {word}")),
-        ("open 3 at 4294967296", "\"4294967296\"", format!("the number of at, {word}")),
+        ("open 3 at", "the line ends", format!("a number for at, {word}")),
+        ("open 3 at used-limit 1", "\"used-limit\"", format!("a number for at, {word}")),
+        ("open 3 at 4294967296", "\"4294967296\"", format!("a number for at, {word}")),
         ("open 3 at 1 at 2", "\"at\"", "at only once".into()),
-        ("open 3 at 1 used-limit 1,5", "\"1,5\"", format!("the number of used-limit, {word}")),
-        ("open 3 at 1 used-limit -1", "\"-1\"", format!("the number of used-limit, {word}")),
+        ("open 3 at 1 used-limit 1,5", "\"1,5\"", format!("a number for used-limit, {word}")),
+        ("open 3 at 1 used-limit -1", "\"-1\"", format!("a number for used-limit, {word}")),
         ("claim 3", "the line ends", METHODS.into()),
         ("claim 3 ReadFree limit 1 at 1", "\"ReadFree\"", METHODS.into()),
         ("claim 3 256 at 1", "\"256\"", METHODS.into()),
@@ -128,13 +128,13 @@ fn every_kind_of_bad_line() {
         (
             "claim 3 ReportUsed 2147483648 at 1",
             "\"2147483648\"",
-            "the number of value, -2,147,483,648 to 2,147,483,647".into(),
+            "a number for value, -2,147,483,648 to 2,147,483,647".into(),
         ),
-        ("claim 3 ReportUsed 5.5 at 1", "\"5.5\"", "the number of value, -2,147,483,648 to 2,147,483,647".into()),
+        ("claim 3 ReportUsed 5.5 at 1", "\"5.5\"", "a number for value, -2,147,483,648 to 2,147,483,647".into()),
         ("claim 3 ReportUsed 5 limit 1 at 1", "\"limit\"", write.into()),
         ("claim 3 ReportUsed five at 1", "\"five\"", write.into()),
         ("claim 3 ReportUsed 5 at 1 prioritty 5", "\"prioritty\"", write.into()),
-        ("claim 3 ReportUsed 5 at 1 priority 256", "\"256\"", "the number of priority, 0 to 255".into()),
+        ("claim 3 ReportUsed 5 at 1 priority 256", "\"256\"", "a number for priority, 0 to 255".into()),
         ("claim 3 ReadUsed limit 5 at 1 fresh fresh", "\"fresh\"", "fresh only once".into()),
         ("claim 3 ReadUsed 5 at 1", "\"5\"", "limit, at, priority, fresh, value or measured".into()),
         ("claim 3 ReadUsed own 5 at 1", "\"own\"", "limit, at, priority, fresh, value or measured".into()),
@@ -153,7 +153,7 @@ fn every_kind_of_bad_line() {
     assert_eq!(sb(&["encode"], &text).refused(1), expected);
     assert_eq!(
         sb(&["encode"], b"open 3 at \xff").refused(1),
-        format!("sb encode: line 1: \"\u{fffd}\": expected the number of at, {word}\n")
+        format!("sb encode: line 1: \"\u{fffd}\": expected a number for at, {word}\n")
     );
 }
 
@@ -233,4 +233,26 @@ fn round_trip_of_random_records() {
     let text = decoded(&records);
     assert_eq!(text.lines().count(), 6_000);
     assert!(encoded(&text) == records, "the same bytes");
+}
+
+/// Text where records are wanted, and records where text is.
+#[test]
+fn the_wrong_way_round() {
+    let err = sb(&["decode"], PRINTED_TEXT).refused(1);
+    assert_eq!(err, "sb decode: the input is text, and no records; sb encode makes records of it\n");
+    for input in [printed_records(), b"o\0p\0e\0n\0".to_vec()] {
+        let err = sb(&["encode"], input).refused(1);
+        let why = "it begins with a record's mark or holds a zero byte; sb decode reads records";
+        assert_eq!(err, format!("sb encode: the input is no text: {why}\n"));
+    }
+}
+
+/// What a bad word holds does not reach the terminal as it is.
+#[test]
+fn a_bad_word_is_shown_plainly() {
+    let err = sb(&["encode"], format!("\u{1b}[31mopen\n{} 3\n", "x".repeat(41))).refused(1);
+    let long = "x".repeat(40);
+    let expected = "expected open, claim or release";
+    let first = format!("sb encode: line 1: \"\\u{{1b}}[31mopen\": {expected}\n");
+    assert_eq!(err, format!("{first}sb encode: line 2: \"{long}…\": {expected}\n"));
 }

@@ -12,6 +12,7 @@ const COMMANDS: [&str; 5] = ["encode", "decode", "explain", "run", "show"];
 fn help_and_version() {
     let help = sb(&["--help"], "").text();
     assert_eq!(sb(&["-h"], "").text(), help);
+    assert_eq!(sb(&["help"], "").text(), help);
     for command in COMMANDS {
         assert!(help.contains(&format!("\n    sb {command} ")), "{help}");
         let own = sb(&[command, "--help"], "").text();

@@ -112,6 +112,16 @@ pub const fn part_at(disk: usize) -> usize {
     HEAD_BYTES + PART_BYTES * disk
 }
 
+/// A record with its mark, kind, disk and second, and zeros behind.
+pub fn begun(kind: u8, disk: u8, now: u32) -> [u8; RECORD_BYTES] {
+    let mut bytes = [0; RECORD_BYTES];
+    bytes[..2].copy_from_slice(&MARK);
+    bytes[record::KIND] = kind;
+    bytes[record::DISK] = disk;
+    put_word(&mut bytes, record::NOW, now);
+    bytes
+}
+
 /// The word at a place.
 ///
 /// # Panics

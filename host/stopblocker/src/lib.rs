@@ -56,3 +56,8 @@ pub use raw::step;
 pub use refusal::Refusal;
 pub use request::{Open, Release, Request};
 pub use view::{ClaimView, DiskView, Figure, State};
+
+/// The example of the page is run with the others.
+#[cfg(doctest)]
+#[doc = include_str!("../../../docs/HOST.md")]
+struct HostPage;

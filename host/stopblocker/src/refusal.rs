@@ -5,14 +5,18 @@ use std::fmt;
 
 /// Why a call was refused. Nothing on the board has changed.
 ///
+/// Its `Display` is 01's sentence; its `Debug`, which `unwrap` and a failing `main` print, has the number too.
+///
 /// ```
 /// use stopblocker::Refusal;
 ///
 /// assert_eq!(Refusal::Clock.number(), 15);
 /// assert_eq!(Refusal::of(15), Some(Refusal::Clock));
 /// assert_eq!(Refusal::Clock.to_string(), "now below the disk's clock");
+/// assert_eq!(format!("{:?}", Refusal::Clock), "refused 15 (now below the disk's clock)");
+/// assert_eq!(Refusal::Closed.what_to_do(), "open the disk first");
 /// ```
-#[derive(Clone, Copy, PartialEq, Eq, PartialOrd, Ord, Hash, Debug)]
+#[derive(Clone, Copy, PartialEq, Eq, PartialOrd, Ord, Hash)]
 #[repr(u32)]
 pub enum Refusal {
     /// 9: board or answer buffer of another length; neither is touched.
@@ -71,6 +75,33 @@ impl Refusal {
     pub fn of(number: u32) -> Option<Refusal> {
         Refusal::ALL.into_iter().find(|r| r.number() == number)
     }
+
+    /// What a caller can do about it, in a line.
+    pub const fn what_to_do(self) -> &'static str {
+        match self {
+            Refusal::Length => "lend a board of 49,216 bytes and an answer buffer of 144",
+            Refusal::Record => "the sender's fault, or bytes lost on the way; sb decode says which byte is wrong",
+            Refusal::Disk => "a board has disks 0 to 63; more disks need a second board",
+            Refusal::Open => "it is open already, go on with claims; its limits stay as the first open set them",
+            Refusal::Closed => "open the disk first",
+            Refusal::Unsound => {
+                "its bytes were changed from outside: put back a copy of the board, or clear its open bit and open it anew"
+            }
+            Refusal::Clock => {
+                "an accepted call was later than this one: call again with the present second; all callers need one clock"
+            }
+            Refusal::Method => {
+                "methods are 0 ReportUsed, 1 AddPromised, 2 SetPromised, 3 SetState, 4 ReadUsed, 5 ReadLoad, 6 ReadState"
+            }
+            Refusal::Field => "the sender's fault; sb explain --records names the field",
+            Refusal::OwnError => {
+                "it could never be granted: measure better, or open the disk with a larger limit on the next board"
+            }
+            Refusal::NoTicket => "all 999,999 tickets of this disk are taken: begin a new board",
+            Refusal::Full => "try again after a release, or on a disk that is less wanted",
+            Refusal::Ticket => "it was released before, or never was; nothing is held under it",
+        }
+    }
 }
 
 impl fmt::Display for Refusal {
@@ -95,6 +126,12 @@ impl fmt::Display for Refusal {
             Refusal::Full => "a claim that would wait while 8 wait",
             Refusal::Ticket => "release of a ticket neither active nor waiting",
         })
+    }
+}
+
+impl fmt::Debug for Refusal {
+    fn fmt(&self, f: &mut fmt::Formatter<'_>) -> fmt::Result {
+        write!(f, "refused {} ({self})", self.number())
     }
 }
 

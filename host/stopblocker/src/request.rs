@@ -1,19 +1,12 @@
 //! Open, release and any request, and their records.
 
-use crate::layout::{put_word, record, MARK, RECORD_BYTES};
+use crate::layout::{begun, put_word, record, RECORD_BYTES};
 use crate::{Claim, Disk};
 
-/// A record with its mark, kind, disk and second, and zeros behind.
-pub(crate) fn begun(kind: u8, disk: Disk, now: u32) -> [u8; RECORD_BYTES] {
-    let mut bytes = [0; RECORD_BYTES];
-    bytes[..2].copy_from_slice(&MARK);
-    bytes[record::KIND] = kind;
-    bytes[record::DISK] = disk.number();
-    put_word(&mut bytes, record::NOW, now);
-    bytes
-}
-
 /// Opens a disk: values and amounts 0, stamps and clock = now, next ticket 1, no claims.
+///
+/// Its limits are of errors, not of the disk's size, and stand as long as the board does: a second open is refused 12, and
+/// nothing closes a disk.
 #[derive(Clone, Copy, PartialEq, Eq, Hash, Debug)]
 pub struct Open {
     disk: Disk,
@@ -35,7 +28,7 @@ impl Open {
 
     /// Its record.
     pub fn record(&self) -> [u8; RECORD_BYTES] {
-        let mut bytes = begun(1, self.disk, self.now);
+        let mut bytes = begun(1, self.disk.number(), self.now);
         put_word(&mut bytes, record::USED_LIMIT, self.used_limit);
         put_word(&mut bytes, record::PROMISED_LIMIT, self.promised_limit);
         bytes
@@ -64,7 +57,7 @@ impl Release {
 
     /// Its record.
     pub fn record(&self) -> [u8; RECORD_BYTES] {
-        let mut bytes = begun(3, self.disk, self.now);
+        let mut bytes = begun(3, self.disk.number(), self.now);
         put_word(&mut bytes, record::TICKET, self.ticket);
         bytes
     }

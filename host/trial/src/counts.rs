@@ -141,13 +141,7 @@ impl Counts {
 
     /// Prints all; the names of what was not seen at all.
     pub fn print(&self) -> Vec<String> {
-        let mut missing = Vec::new();
-        for (name, count) in self.named() {
-            println!("{count:>12}  {name}");
-            if count == 0 {
-                missing.push(name);
-            }
-        }
+        let mut missing = print_named(self.named());
         println!("clauses of \"Sound\" that failed first:");
         for (clause, count) in &self.clauses {
             println!("{count:>12}  {clause}");
@@ -172,4 +166,10 @@ impl Counts {
         }
         missing
     }
+}
+
+/// Prints each count with its name; the names of those that are zero.
+pub fn print_named(all: Vec<(String, u64)>) -> Vec<String> {
+    all.iter().for_each(|(name, count)| println!("{count:>12}  {name}"));
+    all.into_iter().filter(|(_, count)| *count == 0).map(|(name, _)| name).collect()
 }

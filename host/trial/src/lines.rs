@@ -1,5 +1,6 @@
 //! The program's lines by 01's rule, made from what the second program comes to, and what they were, counted.
 
+use crate::counts::print_named;
 use second::{Outcome, RECORD};
 use std::io::Write;
 
@@ -65,7 +66,6 @@ impl Counts {
         ] {
             all.push((name.to_string(), count));
         }
-        all.iter().for_each(|(name, count)| println!("{count:>12}  {name}"));
-        all.into_iter().filter(|(_, count)| *count == 0).map(|(name, _)| name).collect()
+        print_named(all)
     }
 }

@@ -37,8 +37,17 @@ struct Asked {
     wrong: Option<String>,
 }
 
+const USAGE: &str = "\
+usage: host/trial/run [--calls N] [--fuzz N] [--program N] [--seed S] [--wrong NAME]
+    --calls N      so many calls to the desk and to the second program, compared byte for byte
+    --fuzz N       so many calls on any bytes between guard pages
+    --program N    so many records through ./stopblocker, its lines compared
+    --seed S       where chance begins: the same calls for the same seed; 1 unless said
+    --wrong NAME   on a desk or an output that is wrong, which has to fail; --wrong list names them
+";
+
 fn usage(text: &str) -> ! {
-    eprintln!("trial: {text}\nusage: trial [--calls N] [--fuzz N] [--program N] [--seed S] [--wrong NAME]");
+    eprint!("trial: {text}\n{USAGE}");
     exit(2)
 }
 
@@ -46,6 +55,10 @@ fn asked() -> Asked {
     let mut asked = Asked { seed: 1, ..Asked::default() };
     let mut words = std::env::args().skip(1);
     while let Some(word) = words.next() {
+        if word == "--help" || word == "-h" {
+            print!("{USAGE}");
+            exit(0);
+        }
         let value = words.next().unwrap_or_else(|| usage(&format!("{word} wants a value")));
         let number = || value.replace('_', "").parse().unwrap_or_else(|_| usage(&format!("{value} is no number")));
         match word.as_str() {

@@ -20,9 +20,13 @@ others are written, and a comment stands in the place of each that is none; the 
 ";
 
 fn run(options: &Options) -> Result<(), Ending> {
+    let records = input::all(options.file.as_deref())?;
+    if !records.is_empty() && !pieces::are_records(&records) {
+        return Err(Ending::input("the input is text, and no records; sb encode makes records of it".to_string()));
+    }
     let mut text = String::new();
     let mut faults = Vec::new();
-    for (k, piece) in pieces::of_records(&input::all(options.file.as_deref())?).iter().enumerate() {
+    for (k, piece) in pieces::of_records(&records).iter().enumerate() {
         match &piece.record {
             Ok(record) => text += &format!("{}\n", line_of(record)),
             Err(why) => {

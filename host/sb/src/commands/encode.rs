@@ -39,6 +39,12 @@ Every bad line is reported with its number, the wrong word and what was expected
 ";
 
 fn run(options: &Options) -> Result<(), Ending> {
-    let pieces = pieces::of_text(&input::all(options.file.as_deref())?)?;
+    let text = input::all(options.file.as_deref())?;
+    if pieces::are_records(&text) {
+        let fault =
+            "the input is no text: it begins with a record's mark or holds a zero byte; sb decode reads records";
+        return Err(Ending::input(fault.to_string()));
+    }
+    let pieces = pieces::of_text(&text)?;
     print(&pieces.into_iter().flat_map(|piece| piece.bytes).collect::<Vec<u8>>())
 }

@@ -21,13 +21,26 @@ pub const COMMAND: Command = Command {
 const HELP: &str = "\
 sb show --board FILE [--disk N] [--ascii]
 
-Draws the board of FILE: each open disk a line, with bars for used and promised (to the left of zero where a figure is
-negative), how much each may be off by against its limit, the state, the clock, how many claims are active and waiting.
-With --disk one disk in full: its three attributes and every claim with its ticket, method, priority, value, own error
-or stated limit, second of measuring, what it was told and its amount.
+Draws the board of FILE, each open disk a line, with bars for used and promised (to the left of zero where a figure is
+negative). With --disk, one disk in full, with every claim that is active or waits.
+
+    used, promised    the figure, in MiB; a write shows in it at its release
+    off by/limit      how much error the figure carries, and the most that it may, which the disk's open has set
+    state             a code, 0 to 255
+    clock             the second of the disk's last accepted call; a claim or release before it is refused 15
+    active, waiting   how many claims are granted and not yet released, and how many wait; at most 8 of each
+    next ticket       the one that the next claim takes
+    stamp             the second of measuring of the last set that was released, or of the open; used and promised are
+                      fresh for 300 seconds after it, the state for 3,600
+    ticket            the claim's name: release it with this
+    value             what a write sets or adds at its release
+    error             own: a write's own error; limit: the error that a reading can bear
+    told              what a reading was told at its grant, the sum of the figures that it reads
+    amount            how much error that has by now; it never passes the reading's limit
 
 A disk whose part isn't sound is shown as such.
-The drawing is as wide as COLUMNS says, or 100; large figures make it wider. --ascii draws without block characters.
+The drawing is as wide as COLUMNS says, or the terminal is, or 100. Where bars have no room they are left out; what then
+is still too wide stays so. --ascii draws without block characters.
 ";
 
 fn run(options: &Options) -> Result<(), Ending> {

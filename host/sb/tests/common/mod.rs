@@ -128,9 +128,9 @@ record 4, disk 3: ticket 3 waits, tried again at each release
 record 5, disk 3: released ticket 2
   + record 5: ticket 3 granted, disk 3 used may now be off by 600 MiB
 record 6, disk 3: refused 21, release of a ticket neither active nor waiting
-    hint: it was released before, or never was
+    hint: it was released before, or never was; nothing is held under it
 record 7, disk 3: refused 15, now below the disk's clock
-    hint: an accepted call was later than this one; send it again with the present second
+    hint: an accepted call was later than this one: call again with the present second; all callers need one clock
 ";
 
 /// A record by 01's places, written here by hand: bytes 2 to 6, then the four words.
