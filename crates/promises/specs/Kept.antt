@@ -1,4 +1,5 @@
--- What every call keeps, whatever board is lent: no accepted call leaves an unsound part, and nothing but the call's own disk moves.
+-- What every call keeps, whatever board is lent: no accepted call leaves an unsound part or another clock than its now, and nothing
+-- but the call's own disk moves.
 use Prim.Native.Nat.{ℕ, _^_, _≤_, _<_}
 use mathlib.Core.Bool.{Bool, true, false, _&&_, true≢false}
 use mathlib.Core.List.{List}
@@ -27,7 +28,7 @@ use Rattle.desk.specs.Board.{disks, boardBytes, partOf, withPart}
 use Rattle.desk.specs.BoardLaws.{length-with, part-same, part-other, part-open, open-with, byte-before}
 use Rattle.part.specs.Held.{held, partFor, soundPart}
 use Rattle.desk.specs.Step.{tellOf, written, Stepped, stepped, stepOf}
-use Rattle.part.specs.PartLaws.{part-sound, sound-held, sound-decodes, length-part-for}
+use Rattle.part.specs.PartLaws.{held-part, part-sound, sound-held, sound-decodes, length-part-for}
 use Rattle.promises.specs.Sentences.{SoundPart}
 use Rattle.promises.specs.Histories.{Call, BytesIn, begun, lived}
 use Rattle.promises.specs.CaseLaws.{Case, isRefused, isOpened, isServed, told-case, call-readable, nowIn, clock-set, call-now, now-fits}
@@ -55,9 +56,9 @@ opened-sound : (r : List ℕ) → usedLimit r ≤ 2_000_000_000 → promisedLimi
     Sound diskTable (opened (nowOf r) (usedLimit r) (promisedLimit r))
 opened-sound r f0 f1 = sound-opened diskTable (nowOf r) (usedLimit r) (promisedLimit r) f0 f1
 
-opened-clock : (r : List ℕ) → Bytes r → opened (nowOf r) (usedLimit r) (promisedLimit r) .core .clock < 2 ^ 32
+opened-now : (r : List ℕ) → opened (nowOf r) (usedLimit r) (promisedLimit r) .core .clock ≡ nowOf r
 unfolding opened
-opened-clock r bs = now-fits r bs
+opened-now r = refl
 
 -- A served disk, with its clock.
 module _ (p r : List ℕ) (bs : Bytes r) (w : wellFormed r ≡ true) (s : soundPart p ≡ true) (f : LawDisk) (items : List Item)
@@ -67,11 +68,8 @@ module _ (p r : List ℕ) (bs : Bytes r) (w : wellFormed r ≡ true) (s : soundP
       subst (After (λ g xs. Sound diskTable g)) q
       (sound-kept diskTable disk-proper (held p) (callOf r) (call-readable r bs w) (sound-held p s))
 
-  served-clock : f .core .clock < 2 ^ 32
-  served-clock =
-      let e : f .core .clock ≡ nowIn (callOf r) =
-      subst (After (λ g xs. g .core .clock ≡ nowIn (callOf r))) q (clock-set (held p) (callOf r)) in
-      omega (arith, e, call-now r, now-fits r bs)
+  served-now : f .core .clock ≡ nowOf r
+  served-now = subst (After (λ g xs. g .core .clock ≡ nowIn (callOf r))) q (clock-set (held p) (callOf r)) ∙ call-now r
 
   served-size : length (partFor f) ≡ 768
   served-size = length-part-for f (served-sound .fewActive) (served-sound .fewWaiting)
@@ -89,31 +87,59 @@ part-for-sound f s t =
 -- ---- no accepted call leaves an unsound part
 
 module _ (b r a : List ℕ) (bs : Bytes r) where
-  -- Whatever board was lent.
-  pub no-unsound : stepOf b r a .code ≤ 3 → SoundPart (partOf (stepOf b r a .bytes) (diskOf r))
-  no-unsound h = go (lengths b r a)
+  -- The disk that an accepted call leaves in its part: sound, with its clock at the record's second.
+  record Left (p : List ℕ) : Type 0 where
+    disk : LawDisk
+    sound : Sound diskTable disk
+    clock : disk .core .clock ≡ nowOf r
+    is : p ≡ partFor disk
+
+  left : stepOf b r a .code ≤ 3 → Left (partOf (stepOf b r a .bytes) (diskOf r))
+  left h = go (lengths b r a)
     where
-      told : length b ≡ boardBytes → stepOf b r a ≡ written (tellOf b r) → Case b r → SoundPart (partOf (stepOf b r a .bytes) (diskOf r))
+      told : length b ≡ boardBytes → stepOf b r a ≡ written (tellOf b r) → Case b r → Left (partOf (stepOf b r a .bytes) (diskOf r))
       told n e (isRefused x t) =
           let z : stepOf b r a .code ≡ numberOf x = ap (λ (y : Stepped). y .code) (e ∙ ap written t) in
           absurd (omega (arith, h, z, number-range x .0))
       told n e (isOpened w known o f0 f1 t) =
-          subst SoundPart
-          (sym
-          (ap (λ (y : Stepped). partOf (y .bytes) (diskOf r)) (e ∙ ap written t)
-          ∙ part-open (withPart b (diskOf r) (partFor (opened (nowOf r) (usedLimit r) (promisedLimit r)))) (diskOf r) (diskOf r) known
-          ∙ part-same b (diskOf r) n known (partFor (opened (nowOf r) (usedLimit r) (promisedLimit r))) (opened-size r)))
-          (part-for-sound (opened (nowOf r) (usedLimit r) (promisedLimit r)) (opened-sound r f0 f1) (opened-clock r bs))
+          record {
+            disk = opened (nowOf r) (usedLimit r) (promisedLimit r);
+            sound = opened-sound r f0 f1;
+            clock = opened-now r;
+            is =
+                ap (λ (y : Stepped). partOf (y .bytes) (diskOf r)) (e ∙ ap written t)
+                ∙ part-open (withPart b (diskOf r) (partFor (opened (nowOf r) (usedLimit r) (promisedLimit r)))) (diskOf r) (diskOf r) known
+                ∙ part-same b (diskOf r) n known (partFor (opened (nowOf r) (usedLimit r) (promisedLimit r))) (opened-size r);
+          }
       told n e (isServed w known o s f items q t) =
-          subst SoundPart
-          (sym
-          (ap (λ (y : Stepped). partOf (y .bytes) (diskOf r)) (e ∙ ap written t)
-          ∙ part-same b (diskOf r) n known (partFor f) (served-size (partOf b (diskOf r)) r bs w s f items q)))
-          (part-for-sound f (served-sound (partOf b (diskOf r)) r bs w s f items q) (served-clock (partOf b (diskOf r)) r bs w s f items q))
+          record {
+            disk = f;
+            sound = served-sound (partOf b (diskOf r)) r bs w s f items q;
+            clock = served-now (partOf b (diskOf r)) r bs w s f items q;
+            is =
+                ap (λ (y : Stepped). partOf (y .bytes) (diskOf r)) (e ∙ ap written t)
+                ∙ part-same b (diskOf r) n known (partFor f) (served-size (partOf b (diskOf r)) r bs w s f items q);
+          }
 
-      go : Lengths b r a → SoundPart (partOf (stepOf b r a .bytes) (diskOf r))
+      go : Lengths b r a → Left (partOf (stepOf b r a .bytes) (diskOf r))
       go (wrong e) = absurd (omega (arith, h, ap (λ (y : Stepped). y .code) e))
       go (right n e) = told n e (told-case b r n)
+
+  left-fits : {p : List ℕ} (l : Left p) → l .disk .core .clock < 2 ^ 32
+  left-fits l = omega (arith, l .clock, now-fits r bs)
+
+  -- Whatever board was lent.
+  pub no-unsound : stepOf b r a .code ≤ 3 → SoundPart (partOf (stepOf b r a .bytes) (diskOf r))
+  no-unsound h =
+      let l = left h in subst SoundPart (sym (l .is)) (part-for-sound (l .disk) (l .sound) (left-fits l))
+
+  -- Accepted calls set the clock to now.
+  pub clock-now : stepOf b r a .code ≤ 3 → held (partOf (stepOf b r a .bytes) (diskOf r)) .core .clock ≡ nowOf r
+  clock-now h =
+      let l = left h in
+      ap (λ (p : List ℕ). held p .core .clock) (l .is)
+      ∙ ap (λ (d : LawDisk). d .core .clock) (held-part (l .disk) (l .sound) (left-fits l))
+      ∙ l .clock
 
   -- ---- nothing but the call's own disk moves
 

@@ -4,8 +4,10 @@ pub mod Sentences
 pub mod Demand1
 pub mod Demand3
 pub mod Kept
+pub mod Counts
 pub mod Unique
 pub mod Reading
 pub mod RefusalLaws
+pub mod AcceptLaws
 pub mod CaseLaws
 pub mod LifeLaws
