@@ -3,10 +3,9 @@
 use Prim.Native.Nat.{ℕ, _≤_}
 use mathlib.Core.Bool.{Bool, true, false, cond}
 use mathlib.Core.List.{List, [], _∷_}
-use mathlib.Core.Logic.{_↔_, _⊎_, inl, inr}
+use mathlib.Core.Logic.{_↔_, inl, inr}
 use mathlib.Core.Path.{_≡_, refl, ap, _∙_}
 use native.Mathlib.Omega.{arith}
-use borrow.Author.Tests.{eqb-true, eqb-false}
 use lib.Dec.{leb, eqb}
 use lib.ListN.{length}
 use Rattle.num.specs.Opened.{openAt}
@@ -21,12 +20,12 @@ use Rattle.law.specs.Says.{Says, fails, says-lt, says-self, says-fails, says-no
 use Rattle.law.specs.Sentences.{Sentence, FirstHolds}
 use Rattle.answer.specs.Answers.{refusalOf}
 use Rattle.answer.specs.AnswerLaws.{number-range}
-use Rattle.desk.specs.Record.{kindOf, diskOf, nowOf, askedOf, callOf, usedLimit, promisedLimit, wellFormed}
+use Rattle.desk.specs.Record.{kindOf, diskOf, nowOf, askedOf, usedLimit, promisedLimit, wellFormed}
 use Rattle.desk.specs.Board.{disks, partOf}
 use Rattle.part.specs.Held.{held, soundPart}
 use Rattle.desk.specs.Step.{answerOf, stepOf}
 use Rattle.num.specs.Word.{wordAt}
-use Rattle.promises.specs.Sentences.{WellFormed, KindFits, NoneHold, Grants, GrantsOn, GrantsIn, sentences}
+use Rattle.promises.specs.Sentences.{WellFormed, KindFits, NoneHold, Grants, GrantsIn, sentences}
 use Rattle.promises.specs.RefusalLaws.{says-formed, outcomeCode, firstOf, tests, opened, served, lengths, code-by}
 
 -- ---- none of the sentences

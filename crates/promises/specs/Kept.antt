@@ -13,25 +13,21 @@ use Rattle.num.specs.Word.{Bytes}
 use Rattle.num.specs.Opened.{openAt, setOpen}
 use Rattle.num.specs.OpenedLaws.{length-set-open, byte-set-open, open-set-other}
 use Rattle.law.specs.Lists.{All, and-left}
-use Rattle.law.specs.Types.{Disk as LawDisk, Item, accepted}
+use Rattle.law.specs.Types.{Disk as LawDisk}
 use Rattle.law.specs.Calls.{opened}
-use Rattle.law.specs.Events.{After}
-use Rattle.law.specs.History.{answered}
 use Rattle.law.specs.Sound.{Sound}
-use Rattle.law.specs.SoundKept.{sound-kept, sound-opened}
-use Rattle.law.specs.ProperLaws.{disk-proper}
 use Rattle.law.specs.DiskType.{diskTable}
 use Rattle.answer.specs.Answers.{numberOf, answerSize}
 use Rattle.answer.specs.AnswerLaws.{number-range}
-use Rattle.desk.specs.Record.{wellFormed, diskOf, nowOf, callOf, usedLimit, promisedLimit}
+use Rattle.desk.specs.Record.{diskOf, nowOf, usedLimit, promisedLimit}
 use Rattle.desk.specs.Board.{disks, boardBytes, partOf, withPart}
 use Rattle.desk.specs.BoardLaws.{length-with, part-same, part-other, part-open, open-with, byte-before}
 use Rattle.part.specs.Held.{held, partFor, soundPart}
 use Rattle.desk.specs.Step.{tellOf, written, Stepped, stepped, stepOf}
-use Rattle.part.specs.PartLaws.{held-part, part-sound, sound-held, sound-decodes, length-part-for}
+use Rattle.part.specs.PartLaws.{held-part, part-sound, sound-held, sound-decodes}
 use Rattle.promises.specs.Sentences.{SoundPart}
 use Rattle.promises.specs.Histories.{Call, BytesIn, begun, lived}
-use Rattle.promises.specs.CaseLaws.{Case, isRefused, isOpened, isServed, told-case, call-readable, nowIn, clock-set, call-now, now-fits}
+use Rattle.promises.specs.CaseLaws.{Case, isRefused, isOpened, isServed, told-case, now-fits, opened-sound, opened-now, opened-size, served-sound, served-now, served-size}
 use Rattle.promises.specs.LifeLaws.{lifeOf, life-sound, Stands, shut, lives, whole-begun, whole-lived}
 
 -- ---- what a call of the right lengths comes to
@@ -48,35 +44,6 @@ lengths b r a = go (eqb (length b) boardBytes && eqb (length a) answerSize) refl
     go : (v : Bool) → (eqb (length b) boardBytes && eqb (length a) answerSize) ≡ v → Lengths b r a
     go true v = right (eqb-true (length b) boardBytes (and-left (eqb (length b) boardBytes) (eqb (length a) answerSize) v)) (rw v)
     go false v = wrong (rw v)
-
--- ---- the disk that an accepted call leaves
-
--- An opened disk, with its clock.
-opened-sound : (r : List ℕ) → usedLimit r ≤ 2_000_000_000 → promisedLimit r ≤ 2_000_000_000 →
-    Sound diskTable (opened (nowOf r) (usedLimit r) (promisedLimit r))
-opened-sound r f0 f1 = sound-opened diskTable (nowOf r) (usedLimit r) (promisedLimit r) f0 f1
-
-opened-now : (r : List ℕ) → opened (nowOf r) (usedLimit r) (promisedLimit r) .core .clock ≡ nowOf r
-unfolding opened
-opened-now r = refl
-
--- A served disk, with its clock.
-module _ (p r : List ℕ) (bs : Bytes r) (w : wellFormed r ≡ true) (s : soundPart p ≡ true) (f : LawDisk) (items : List Item)
-    (q : answered diskTable (held p) (callOf r) ≡ accepted f items) where
-  served-sound : Sound diskTable f
-  served-sound =
-      subst (After (λ g xs. Sound diskTable g)) q
-      (sound-kept diskTable disk-proper (held p) (callOf r) (call-readable r bs w) (sound-held p s))
-
-  served-now : f .core .clock ≡ nowOf r
-  served-now = subst (After (λ g xs. g .core .clock ≡ nowIn (callOf r))) q (clock-set (held p) (callOf r)) ∙ call-now r
-
-  served-size : length (partFor f) ≡ 768
-  served-size = length-part-for f (served-sound .fewActive) (served-sound .fewWaiting)
-
-opened-size : (r : List ℕ) → length (partFor (opened (nowOf r) (usedLimit r) (promisedLimit r))) ≡ 768
-unfolding opened
-opened-size r = length-part-for (opened (nowOf r) (usedLimit r) (promisedLimit r)) (omega arith) (omega arith)
 
 -- The part of a sound disk.
 part-for-sound : (f : LawDisk) → Sound diskTable f → f .core .clock < 2 ^ 32 → SoundPart (partFor f)

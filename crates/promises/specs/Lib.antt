@@ -1,5 +1,6 @@
 -- The promises. First what they speak of, then the promises, then laws.
 pub mod Histories
+pub mod Asks
 pub mod Sentences
 pub mod Demand1
 pub mod Demand3
@@ -11,3 +12,4 @@ pub mod RefusalLaws
 pub mod AcceptLaws
 pub mod CaseLaws
 pub mod LifeLaws
+pub mod AskedLaws
