@@ -1,29 +1,30 @@
 -- What every call keeps, whatever board is lent: no accepted call leaves an unsound part or another clock than its now, and nothing
--- but the call's own disk moves.
+-- but the call's own disk moves or is read.
 use Prim.Native.Nat.{ℕ, _^_, _≤_, _<_}
-use mathlib.Core.Bool.{Bool, true, false, _&&_, true≢false}
+use mathlib.Core.Bool.{Bool, true, false, cond, _&&_, true≢false}
 use mathlib.Core.List.{List}
 use mathlib.Core.Logic.{_≢_}
 use mathlib.Core.Path.{_≡_, refl, sym, ap, subst, _∙_}
 use native.Mathlib.Omega.{arith}
-use borrow.Author.Tests.{eqb-true}
-use lib.Dec.{eqb}
+use borrow.Author.Tests.{eqb-true, leb-false}
+use lib.Dec.{leb, eqb}
 use lib.ListN.{length, getD}
 use Rattle.num.specs.Word.{Bytes}
 use Rattle.num.specs.Opened.{openAt, setOpen}
-use Rattle.num.specs.OpenedLaws.{length-set-open, byte-set-open, open-set-other}
+use Rattle.num.specs.OpenedLaws.{length-set-open, byte-set-open, open-set-other, open-same}
 use Rattle.law.specs.Lists.{All, and-left}
-use Rattle.law.specs.Types.{Disk as LawDisk}
-use Rattle.law.specs.Calls.{opened}
+use Rattle.law.specs.Types.{Disk as LawDisk, Outcome, refused, accepted}
+use Rattle.law.specs.Calls.{opened, openDisk}
 use Rattle.law.specs.Sound.{Sound}
 use Rattle.law.specs.DiskType.{diskTable}
-use Rattle.answer.specs.Answers.{numberOf, answerSize}
+use Rattle.answer.specs.declared.Refusal.the-variants as R
+use Rattle.answer.specs.Answers.{numberOf, codeOf, answerBytes, answerSize}
 use Rattle.answer.specs.AnswerLaws.{number-range}
-use Rattle.desk.specs.Record.{diskOf, nowOf, usedLimit, promisedLimit}
+use Rattle.desk.specs.Record.{kindOf, wellFormed, diskOf, nowOf, callOf, usedLimit, promisedLimit}
 use Rattle.desk.specs.Board.{disks, boardBytes, partOf, withPart}
 use Rattle.desk.specs.BoardLaws.{length-with, part-same, part-other, part-open, open-with, byte-before}
 use Rattle.part.specs.Held.{held, partFor, soundPart}
-use Rattle.desk.specs.Step.{tellOf, written, Stepped, stepped, stepOf}
+use Rattle.desk.specs.Step.{Said, ownOf, grantsOf, Told, telling, refusing, serveOf, onPart, opening, onDisk, onBoard, tellOf, written, Stepped, stepped, stepOf}
 use Rattle.part.specs.PartLaws.{held-part, part-sound, sound-held, sound-decodes}
 use Rattle.promises.specs.Sentences.{SoundPart}
 use Rattle.promises.specs.Histories.{Call, BytesIn, begun, lived}
@@ -177,6 +178,62 @@ module _ (b r a : List ℕ) (bs : Bytes r) where
       go c (part size known p full q) = ap length q ∙ length-with b (diskOf r) size known p full ∙ sym size
       go c (opens size known p full q) =
           ap length q ∙ length-set-open (withPart b (diskOf r) p) (diskOf r) ∙ length-with b (diskOf r) size known p full ∙ sym size
+
+-- ---- a call reads nothing of the board but its own disk's bit and part
+
+module _ (b c r a : List ℕ) (same : length b ≡ length c) where
+  opening-said : (o : Outcome) → opening b (diskOf r) o .said ≡ opening c (diskOf r) o .said
+  opening-said (refused n) = refl
+  opening-said (accepted d items) = refl
+
+  disk-said : openAt b (diskOf r) ≡ openAt c (diskOf r) → partOf b (diskOf r) ≡ partOf c (diskOf r) →
+      onDisk b r (diskOf r) .said ≡ onDisk c r (diskOf r) .said
+  disk-said o p = rw (o, p) (go (eqb (kindOf r) 1) (openAt c (diskOf r)) (serveOf (partOf c (diskOf r)) (callOf r)))
+    where
+      outcome : Outcome
+      outcome = openDisk (nowOf r) (usedLimit r) (promisedLimit r)
+
+      go : (opens isOpen : Bool) (t : Told) →
+          cond opens (cond isOpen (refusing b R.Open) (opening b (diskOf r) outcome))
+          (cond isOpen (onPart b (diskOf r) t) (refusing b R.Closed)) .said
+          ≡ cond opens (cond isOpen (refusing c R.Open) (opening c (diskOf r) outcome))
+          (cond isOpen (onPart c (diskOf r) t) (refusing c R.Closed)) .said
+      go true true t = refl
+      go true false t = opening-said outcome
+      go false true t = refl
+      go false false t = refl
+
+  said-same : (diskOf r < disks → openAt b (diskOf r) ≡ openAt c (diskOf r)) → (diskOf r < disks → partOf b (diskOf r) ≡ partOf c (diskOf r)) →
+      tellOf b r .said ≡ tellOf c r .said
+  unfolding tellOf onBoard
+  said-same o p = go (wellFormed r) (leb disks (diskOf r)) refl
+    where
+      go : (formed far : Bool) → leb disks (diskOf r) ≡ far →
+          cond formed (cond far (refusing b R.Disk) (onDisk b r (diskOf r))) (refusing b R.Record) .said
+          ≡ cond formed (cond far (refusing c R.Disk) (onDisk c r (diskOf r))) (refusing c R.Record) .said
+      go false far e = refl
+      go true true e = refl
+      go true false e = let known = leb-false disks (diskOf r) e in disk-said (o known) (p known)
+
+  -- Whatever else two boards of one length hold, the call returns and answers the same.
+  pub reads-own : (diskOf r < disks → openAt b (diskOf r) ≡ openAt c (diskOf r)) → (diskOf r < disks → partOf b (diskOf r) ≡ partOf c (diskOf r)) →
+      (stepOf b r a .code ≡ stepOf c r a .code) × (stepOf b r a .answer ≡ stepOf c r a .answer)
+  unfolding stepOf
+  reads-own o p =
+      rw same
+      (go (eqb (length c) boardBytes && eqb (length a) answerSize) (tellOf b r .said) (tellOf c r .said) (said-same o p))
+    where
+      go : (v : Bool) (x y : Said) → x ≡ y →
+          (cond v (written (telling (tellOf b r .bytes) x)) (stepped 9 b a) .code ≡ cond v (written (telling (tellOf c r .bytes) y)) (stepped 9 c a) .code)
+          × (cond v (written (telling (tellOf b r .bytes) x)) (stepped 9 b a) .answer
+          ≡ cond v (written (telling (tellOf c r .bytes) y)) (stepped 9 c a) .answer)
+      go true x y e = (ap (λ (z : Said). codeOf (ownOf z)) e, ap (λ (z : Said). answerBytes (ownOf z) (grantsOf z)) e)
+      go false x y e = (refl, refl)
+
+  -- So bytes 8 to 63 of the head are never read.
+  pub head-unread : ((k : ℕ) → k < 8 → getD b k 0 ≡ getD c k 0) → ((d : ℕ) → d < disks → partOf b d ≡ partOf c d) →
+      (stepOf b r a .code ≡ stepOf c r a .code) × (stepOf b r a .answer ≡ stepOf c r a .answer)
+  head-unread bits parts = reads-own (λ h. open-same b c bits (diskOf r) h) (λ h. parts (diskOf r) h)
 
 -- ---- boards from the empty one
 
