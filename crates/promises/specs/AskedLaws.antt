@@ -2,7 +2,7 @@
 use Prim.Native.Nat.{ℕ, _<_}
 use mathlib.Core.Bool.{Bool, true, false, cond}
 use mathlib.Core.List.{List, [], _∷_, _++_, append-assoc, append-nil}
-use mathlib.Core.Logic.{inl, inr}
+use mathlib.Core.Logic.{inl}
 use mathlib.Core.Path.{_≡_, refl, sym, ap, subst, _∙_}
 use native.Mathlib.Omega.{arith}
 use borrow.Author.Tests.{eqb-true, eqb-false, eq-eqb}
@@ -27,26 +27,11 @@ use Rattle.part.specs.Held.{held, partFor}
 use Rattle.part.specs.PartLaws.{held-part}
 use Rattle.desk.specs.Step.{Said, Told}
 use Rattle.promises.specs.Histories.{Call, BytesIn, stepBy, History, after, lived}
-use Rattle.promises.specs.Asks.{asAsked, Claimed, takenBy, taken, claimedOn, claimed, Some, AsAsked}
+use Rattle.promises.specs.Asks.{asAsked, Claimed, takenBy, taken, claimedOn, claimed, AsAsked}
+use Rattle.promises.specs.SomeLaws.{some-left, some-right}
 use Rattle.promises.specs.CaseLaws.{Case, isRefused, isOpened, isServed, told-case, now-fits, opened-sound, opened-size, served-sound, served-now, served-size}
 use Rattle.promises.specs.LifeLaws.{Whole, board-9, board-told, said-told, whole-after}
 use Rattle.promises.specs.Kept.{other-parts, other-bits}
-
--- ---- laws of lists
-
-some-left : {A : Type 0} (P : A → Type 0) (xs ys : List A) → Some P xs → Some P (xs ++ ys)
-some-left P [] ys s = absurd s
-some-left P (x ∷ xs) ys (inl h) = inl h
-some-left P (x ∷ xs) ys (inr h) = inr (some-left P xs ys h)
-
-some-right : {A : Type 0} (P : A → Type 0) (xs ys : List A) → Some P ys → Some P (xs ++ ys)
-some-right P [] ys s = s
-some-right P (x ∷ xs) ys s = inr (some-right P xs ys s)
-
-pub some-say : {A : Type 0} {P Q : A → Type 0} → ((x : A) → P x → Q x) → (xs : List A) → Some P xs → Some Q xs
-some-say f [] s = s
-some-say f (x ∷ xs) (inl h) = inl (f x h)
-some-say f (x ∷ xs) (inr h) = inr (some-say f xs h)
 
 -- ---- one call on one disk
 

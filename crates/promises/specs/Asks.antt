@@ -1,4 +1,4 @@
--- What was asked on each disk: the claims that calls made, each with its ticket and its record.
+-- What was asked on each disk: the claims that calls made, each with its ticket and its record. And what was said of a claim.
 use Prim.Native.Nat.{ℕ}
 use mathlib.Core.Bool.{Bool, cond}
 use mathlib.Core.List.{List, [], _∷_, _++_}
@@ -53,3 +53,7 @@ AsAsked past c = Some (λ x. asAsked c ≡ claimOf (askedOf (x .asks)) (x .ticke
 -- The claim is one of those, with its ticket, and its own error or stated limit is the one in bytes 20–23 of its record.
 abbrev pub Stated : List Claimed → Claim → Type 0
 Stated past c = Some (λ x. (c .ticket ≡ x .ticket) × (c .error ≡ wordAt (x .asks) 20)) past
+
+-- One of those items granted the claim, with its ticket and the told sum that it has.
+abbrev pub WasGranted : List Item → Claim → Type 0
+WasGranted past c = Some (λ i. (i .code ≡ 0) × ((i .ticket ≡ c .ticket) × (i .told ≡ c .told))) past

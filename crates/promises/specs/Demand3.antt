@@ -34,8 +34,10 @@ use Rattle.promises.specs.Sentences.{WellFormed}
 use Rattle.promises.specs.RefusalLaws.{says-formed}
 use Rattle.promises.specs.Histories.{Call, BytesIn, stepBy, saidBy, begun, lived}
 use Rattle.promises.specs.LifeLaws.{lifeOf, life-sound, Stands, shut, lives, empty-shut, whole-begun, whole-lived}
-use Rattle.promises.specs.Asks.{claimed, AsAsked, Stated}
-use Rattle.promises.specs.AskedLaws.{some-say, lived-asked}
+use Rattle.promises.specs.Asks.{claimed, AsAsked, Stated, WasGranted}
+use Rattle.promises.specs.SomeLaws.{some-say}
+use Rattle.promises.specs.AskedLaws.{lived-asked}
+use Rattle.promises.specs.ToldLaws.{lived-granted}
 
 -- ---- what is said is what the answer buffer shows
 
@@ -85,6 +87,21 @@ granted-once ks bs d h = go (whole-lived begun ks bs whole-begun .each d h)
     go : Stands (lived begun ks .board) (lived begun ks .past d) d → Pairs Once (lived begun ks .past d)
     go (shut o e) = subst (Pairs Once) (sym e) tt
     go (lives o l p e) = subst (Pairs Once) (sym e) (law-granted-once diskTable (l .now) (l .limit0) (l .limit1) (l .calls))
+
+-- And every reading that is active was granted by an item that was said, with the told sum that stands on the board: none is left out.
+pub readings-told : (ks : List Call) → All BytesIn ks → (d : ℕ) → d < disks → openAt (lived begun ks .board) d ≡ true →
+    All (WasGranted (lived begun ks .past d)) (held (partOf (lived begun ks .board) d) .core .active)
+readings-told ks bs d h o = go (whole-lived begun ks bs whole-begun .each d h)
+  where
+    go : Stands (lived begun ks .board) (lived begun ks .past d) d →
+        All (WasGranted (lived begun ks .past d)) (held (partOf (lived begun ks .board) d) .core .active)
+    go (shut x e) = absurd (true≢false (sym o ∙ x))
+    go (lives x l p e) =
+        let disk : held (partOf (lived begun ks .board) d) ≡ lifeOf l .disk =
+        ap held p ∙ held-part (lifeOf l .disk) (life-sound l) (l .clock) in
+        subst (λ (past : List Item). All (WasGranted past) (held (partOf (lived begun ks .board) d) .core .active)) (sym e)
+        (subst (λ (y : LawDisk). All (WasGranted (lifeOf l .past)) (y .core .active)) (sym disk)
+        (lived-granted (l .now) (l .limit0) (l .limit1) (l .calls)))
 
 -- ---- the limit that it stated
 

@@ -8,8 +8,10 @@ pub mod Kept
 pub mod Counts
 pub mod Unique
 pub mod Reading
+pub mod SomeLaws
 pub mod RefusalLaws
 pub mod AcceptLaws
 pub mod CaseLaws
 pub mod LifeLaws
 pub mod AskedLaws
+pub mod ToldLaws
