@@ -2,7 +2,7 @@
 use Prim.Native.Nat.{ℕ, _≤_, _<_, _^_}
 use mathlib.Core.Bool.{Bool, true, false, cond, not}
 use mathlib.Core.List.{List, [], _∷_}
-use mathlib.Core.Path.{_≡_, refl, ap, _∙_}
+use mathlib.Core.Path.{_≡_, refl, ap, subst, _∙_}
 use native.Mathlib.Omega.{arith}
 use borrow.Author.Tests.{leb-true, leb-false}
 use lib.Dec.{leb, eqb}
@@ -17,7 +17,9 @@ use Rattle.law.specs.Granting.{grant}
 use Rattle.law.specs.Calls.{item, at, opened, openDisk, finish, without}
 use Rattle.law.specs.Events.{After, claim-after, release-after, pass-keeps}
 use Rattle.law.specs.History.{Call as LawCall, claims, releases, answered}
-use Rattle.law.specs.SoundKept.{ReadableCall}
+use Rattle.law.specs.Sound.{Sound}
+use Rattle.law.specs.SoundKept.{ReadableCall, sound-kept, sound-opened}
+use Rattle.law.specs.ProperLaws.{disk-proper}
 use Rattle.law.specs.DiskType.{diskTable}
 use Rattle.answer.specs.declared.Refusal.{Refusal}
 use Rattle.answer.specs.declared.Refusal.the-variants as R
@@ -26,6 +28,7 @@ use Rattle.desk.specs.Record.{byteAt, wellFormed, kindFits, kindOf, diskOf, now
 use Rattle.desk.specs.Board.{disks, boardBytes, partOf, withPart}
 use Rattle.desk.specs.BoardLaws.{with-same}
 use Rattle.part.specs.Held.{held, partFor, soundPart}
+use Rattle.part.specs.PartLaws.{sound-held, length-part-for}
 use Rattle.desk.specs.Step.{tells, telling, refusing, settled, serveOf, onPart, opening, onDisk, onBoard, tellOf}
 
 -- ---- the cases
@@ -163,3 +166,32 @@ call-now r = go (eqb (kindOf r) 2)
 
 pub now-fits : (r : List ℕ) → Bytes r → nowOf r < 2 ^ 32
 now-fits r bs = word-at-fits r 8 bs
+
+-- ---- the disk that an accepted call leaves
+
+-- An opened disk, with its clock.
+pub opened-sound : (r : List ℕ) → usedLimit r ≤ 2_000_000_000 → promisedLimit r ≤ 2_000_000_000 →
+    Sound diskTable (opened (nowOf r) (usedLimit r) (promisedLimit r))
+opened-sound r f0 f1 = sound-opened diskTable (nowOf r) (usedLimit r) (promisedLimit r) f0 f1
+
+pub opened-now : (r : List ℕ) → opened (nowOf r) (usedLimit r) (promisedLimit r) .core .clock ≡ nowOf r
+unfolding opened
+opened-now r = refl
+
+-- A served disk, with its clock.
+module _ (p r : List ℕ) (bs : Bytes r) (w : wellFormed r ≡ true) (s : soundPart p ≡ true) (f : LawDisk) (items : List Item)
+    (q : answered diskTable (held p) (callOf r) ≡ accepted f items) where
+  pub served-sound : Sound diskTable f
+  served-sound =
+      subst (After (λ g xs. Sound diskTable g)) q
+      (sound-kept diskTable disk-proper (held p) (callOf r) (call-readable r bs w) (sound-held p s))
+
+  pub served-now : f .core .clock ≡ nowOf r
+  served-now = subst (After (λ g xs. g .core .clock ≡ nowIn (callOf r))) q (clock-set (held p) (callOf r)) ∙ call-now r
+
+  pub served-size : length (partFor f) ≡ 768
+  served-size = length-part-for f (served-sound .fewActive) (served-sound .fewWaiting)
+
+pub opened-size : (r : List ℕ) → length (partFor (opened (nowOf r) (usedLimit r) (promisedLimit r))) ≡ 768
+unfolding opened
+opened-size r = length-part-for (opened (nowOf r) (usedLimit r) (promisedLimit r)) (omega arith) (omega arith)

@@ -1,16 +1,18 @@
--- Demand 1: what a call ends in, when it is refused and with which number, and what a refusal leaves. On any board b, record r and answer
--- buffer a, of any length and any content.
+-- Demand 1: what a call ends in, when it is refused and with which number, when it is granted, waits, releases or opens, and what a
+-- refusal leaves. On any board b, record r and answer buffer a, of any length and any content.
 use Prim.Native.Nat.{ℕ, _≤_, _<_}
 use mathlib.Core.List.{List, _++_}
-use mathlib.Core.Logic.{_↔_, _⊎_, inr}
+use mathlib.Core.Logic.{_↔_, _⊎_, inr, ⊎-elim}
 use mathlib.Core.Path.{_≡_, refl}
 use native.Mathlib.Omega.{arith}
 use lib.ListN.{replicate}
 use Rattle.num.specs.Runs.{le4}
 use Rattle.law.specs.Sentences.{FirstHolds}
+use Rattle.desk.specs.Record.{kindOf}
 use Rattle.desk.specs.Step.{ownOf, tellOf, stepOf}
-use Rattle.promises.specs.Sentences.{sentences}
-use Rattle.promises.specs.RefusalLaws.{code-exactly, nine-only, answer-ends, by-lengths, tell-leaves, said-answers}
+use Rattle.promises.specs.Sentences.{NoneHold, GrantsIn, sentences}
+use Rattle.promises.specs.RefusalLaws.{code-exactly, first-least, nine-only, answer-ends, by-lengths, tell-leaves, said-answers}
+use Rattle.promises.specs.AcceptLaws.{none-first, first-none, Ends, ends, ends-opened, ends-granted, ends-waits, ends-released}
 
 -- Every call ends in granted, waits, released or opened (0 to 3), or in a refusal (9 to 21).
 pub every-call-ends : (b r a : List ℕ) → (stepOf b r a .code ≤ 3) ⊎ ((9 ≤ stepOf b r a .code) × (stepOf b r a .code ≤ 21))
@@ -22,6 +24,41 @@ every-call-ends b r a =
 -- Each refusal n is given exactly when its sentence holds and none before it does (`Sentences` has them in order).
 pub refused-exactly : (n : ℕ) → 9 ≤ n → (b r a : List ℕ) → (stepOf b r a .code ≡ n) ↔ FirstHolds n (sentences b r a)
 refused-exactly n l b r a = code-exactly b r a n l
+
+-- A call is accepted exactly when none of the sentences holds.
+pub accepted-exactly : (b r a : List ℕ) → (stepOf b r a .code ≤ 3) ↔ NoneHold (sentences b r a)
+accepted-exactly b r a = (
+  λ h. first-none (sentences b r a) (λ n f. omega (arith, h, first-least b r a n f, code-exactly b r a n (first-least b r a n f) .1 f)),
+  λ none.
+      ⊎-elim (λ h. h)
+      (λ h. absurd (none-first (sentences b r a) none (stepOf b r a .code) (code-exactly b r a (stepOf b r a .code) (h .0) .0 refl)))
+      (every-call-ends b r a),
+)
+
+-- And then: granted exactly when it is a claim and preconditions hold, nothing bars, the lock step passes and fewer than 8 are
+-- active; waits exactly when it is any other claim; released and opened exactly when it is a release and an open.
+module _ (b r a : List ℕ) where
+  among : {P : Type 0} (n : ℕ) → n ≤ 3 → (Ends b r (stepOf b r a .code) → (stepOf b r a .code ≡ n) ↔ P) →
+      (stepOf b r a .code ≡ n) ↔ (NoneHold (sentences b r a) × P)
+  among n l case = (
+    λ e.
+        let h : stepOf b r a .code ≤ 3 = omega (arith, e) in
+        let none = accepted-exactly b r a .0 h in
+        (none, case (ends b r a none h) .0 e),
+    λ h. case (ends b r a (h .0) (accepted-exactly b r a .1 (h .0))) .1 (h .1),
+  )
+
+  pub granted-exactly : (stepOf b r a .code ≡ 0) ↔ (NoneHold (sentences b r a) × ((kindOf r ≡ 2) × GrantsIn b r))
+  granted-exactly = among 0 (omega arith) (ends-granted b r (stepOf b r a .code))
+
+  pub waits-exactly : (stepOf b r a .code ≡ 1) ↔ (NoneHold (sentences b r a) × ((kindOf r ≡ 2) × (GrantsIn b r → ⊥)))
+  waits-exactly = among 1 (omega arith) (ends-waits b r (stepOf b r a .code))
+
+  pub released-exactly : (stepOf b r a .code ≡ 2) ↔ (NoneHold (sentences b r a) × (kindOf r ≡ 3))
+  released-exactly = among 2 (omega arith) (ends-released b r (stepOf b r a .code))
+
+  pub opened-exactly : (stepOf b r a .code ≡ 3) ↔ (NoneHold (sentences b r a) × (kindOf r ≡ 1))
+  opened-exactly = among 3 (omega arith) (ends-opened b r (stepOf b r a .code))
 
 -- A refusal leaves the board as it was, every byte of it.
 pub refusal-leaves-board : (b r a : List ℕ) → 9 ≤ stepOf b r a .code → stepOf b r a .bytes ≡ b

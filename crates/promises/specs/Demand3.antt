@@ -11,11 +11,13 @@ use Rattle.num.specs.Word.{wordAt}
 use Rattle.num.specs.Signed.{signedAt}
 use Rattle.num.specs.Metric.{dist}
 use Rattle.num.specs.Opened.{openAt}
-use Rattle.law.specs.Lists.{All, Pairs}
+use Rattle.law.specs.declared.Claim.{Claim}
+use Rattle.law.specs.Lists.{All, Pairs, all-say}
 use Rattle.law.specs.Types.{reads, Disk as LawDisk, Item, accepted}
 use Rattle.law.specs.Entries.{kindAt, kindOf}
 use Rattle.law.specs.Readings.{present, carried}
 use Rattle.law.specs.Calls.{withGrant}
+use Rattle.law.specs.Sound.{claimsOn}
 use Rattle.law.specs.History.{claims, answered}
 use Rattle.law.specs.GrantedAtOnce.{Reading, Free, readingItem, granted-at-once as law-granted-at-once}
 use Rattle.law.specs.Kept.{Once}
@@ -31,7 +33,11 @@ use Rattle.part.specs.PartLaws.{held-part, part-sound}
 use Rattle.promises.specs.Sentences.{WellFormed}
 use Rattle.promises.specs.RefusalLaws.{says-formed}
 use Rattle.promises.specs.Histories.{Call, BytesIn, stepBy, saidBy, begun, lived}
-use Rattle.promises.specs.LifeLaws.{lifeOf, life-sound, Stands, shut, lives, whole-begun, whole-lived}
+use Rattle.promises.specs.LifeLaws.{lifeOf, life-sound, Stands, shut, lives, empty-shut, whole-begun, whole-lived}
+use Rattle.promises.specs.Asks.{claimed, AsAsked, Stated, WasGranted}
+use Rattle.promises.specs.SomeLaws.{some-say}
+use Rattle.promises.specs.AskedLaws.{lived-asked}
+use Rattle.promises.specs.ToldLaws.{lived-granted}
 
 -- ---- first half: a reading can rely on what it was told, as long as it is held
 
@@ -68,6 +74,40 @@ granted-once ks bs d h = go (whole-lived begun ks bs whole-begun .each d h)
     go : Stands (lived begun ks .board) (lived begun ks .past d) d → Pairs Once (lived begun ks .past d)
     go (shut o e) = subst (Pairs Once) (sym e) tt
     go (lives o l p e) = subst (Pairs Once) (sym e) (law-granted-once diskTable (l .now) (l .limit0) (l .limit1) (l .calls))
+
+-- And every reading that is active was granted by an item that was said, with the told sum that stands on the board: none is left out.
+pub readings-told : (ks : List Call) → All BytesIn ks → (d : ℕ) → d < disks → openAt (lived begun ks .board) d ≡ true →
+    All (WasGranted (lived begun ks .past d)) (held (partOf (lived begun ks .board) d) .core .active)
+readings-told ks bs d h o = go (whole-lived begun ks bs whole-begun .each d h)
+  where
+    go : Stands (lived begun ks .board) (lived begun ks .past d) d →
+        All (WasGranted (lived begun ks .past d)) (held (partOf (lived begun ks .board) d) .core .active)
+    go (shut x e) = absurd (true≢false (sym o ∙ x))
+    go (lives x l p e) =
+        let disk : held (partOf (lived begun ks .board) d) ≡ lifeOf l .disk =
+        ap held p ∙ held-part (lifeOf l .disk) (life-sound l) (l .clock) in
+        subst (λ (past : List Item). All (WasGranted past) (held (partOf (lived begun ks .board) d) .core .active)) (sym e)
+        (subst (λ (y : LawDisk). All (WasGranted (lifeOf l .past)) (y .core .active)) (sym disk)
+        (lived-granted (l .now) (l .limit0) (l .limit1) (l .calls)))
+
+-- ---- the limit that it stated
+
+-- After any calls from the empty board: every claim of an open disk, active or waiting, is one that a record claimed, with the
+-- ticket that it took then, and but for told and amount as that record asks.
+pub claims-as-asked : (ks : List Call) → All BytesIn ks → (d : ℕ) → d < disks → openAt (lived begun ks .board) d ≡ true →
+    All (AsAsked (claimed begun ks d)) (claimsOn (held (partOf (lived begun ks .board) d)))
+claims-as-asked ks bs =
+    lived-asked begun ks bs whole-begun (λ d. []) (λ d l o. absurd (true≢false (sym o ∙ empty-shut d l)))
+
+-- So the limit by which `told-bound` binds is the one that the reading's record states in bytes 20–23.
+pub limit-stated : (ks : List Call) → All BytesIn ks → (d : ℕ) → d < disks → openAt (lived begun ks .board) d ≡ true →
+    All (Stated (claimed begun ks d)) (claimsOn (held (partOf (lived begun ks .board) d)))
+unfolding askedOf
+limit-stated ks bs d l o =
+    all-say (AsAsked (claimed begun ks d)) (Stated (claimed begun ks d))
+    (λ c h. some-say (λ x q. (ap (λ (e : Claim). e .ticket) q, ap (λ (e : Claim). e .error) q)) (claimed begun ks d) h)
+    (claimsOn (held (partOf (lived begun ks .board) d)))
+    (claims-as-asked ks bs d l o)
 
 -- ---- and what was said is what the answer buffer showed
 

@@ -85,12 +85,15 @@ zeros k = go (ltb k boardBytes) refl
     go true v = getD-replicate boardBytes k 0 0 (ltb-true k boardBytes v)
     go false v = List·getD-eq-default emptyBoard 0 {n = k} (omega (arith, ltb-false k boardBytes v, length-replicate {A = ℕ} boardBytes 0))
 
+pub empty-shut : (d : ℕ) → d < disks → openAt emptyBoard d ≡ false
+empty-shut d h = open-none emptyBoard (λ k l. zeros k) d h
+
 pub whole-begun : Whole begun
 whole-begun =
     record {
       size = length-replicate {A = ℕ} boardBytes 0;
       bytes = λ k. rw (zeros k) (omega arith);
-      each = λ d h. shut (open-none emptyBoard (λ k l. zeros k) d h) refl;
+      each = λ d h. shut (empty-shut d h) refl;
     }
 
 -- ---- one call
@@ -108,7 +111,7 @@ module _ (b : List ℕ) (k : Call) where
 
   -- With an answer buffer of another length nothing is said and nothing changes.
   module _ (size : length b ≡ boardBytes) where
-    board-9 : eqb (length (k .buffer)) answerSize ≡ false → stepBy b k .bytes ≡ b
+    pub board-9 : eqb (length (k .buffer)) answerSize ≡ false → stepBy b k .bytes ≡ b
     unfolding stepOf
     board-9 e = rw (eq-eqb (length b) boardBytes size, e)
 

@@ -151,14 +151,18 @@ rule-numbered b r = go (eqb (kindOf r) 1)
     go true = refl
     go false = call-numbered d (callOf r)
 
--- 9 is the number of the first sentence only.
+abbrev behind : List Sentence → List Sentence
+behind [] = []
+behind (s ∷ ss) = ss
+
+-- 9 is the number of the first sentence only, and the least.
 pub nine-only : (b r a : List ℕ) → FirstHolds 9 (sentences b r a) → (length b ≡ 49_216) × (length a ≡ 144) → ⊥
 nine-only b r a (inl h) w = h .0 w
 nine-only b r a (inr h) w = omega (arith, first-number 9 (behind (sentences b r a)) (rule-numbered b r) (h .1) .0)
-  where
-    behind : List Sentence → List Sentence
-    behind [] = []
-    behind (s ∷ ss) = ss
+
+pub first-least : (b r a : List ℕ) (n : ℕ) → FirstHolds n (sentences b r a) → 9 ≤ n
+first-least b r a n (inl h) = omega (arith, h .1)
+first-least b r a n (inr h) = omega (arith, first-number n (behind (sentences b r a)) (rule-numbered b r) (h .1) .0)
 
 -- ---- codes
 
@@ -187,7 +191,7 @@ answer-ends A.Opened = inl (omega arith)
 answer-ends (A.Refused r) = inr (number-range r)
 
 -- The code of an outcome of the law.
-abbrev outcomeCode : Outcome → ℕ
+abbrev pub outcomeCode : Outcome → ℕ
 outcomeCode (refused n) = numberOf (refusalOf n)
 outcomeCode (accepted d items) = codeOf (ownOf (tells items))
 
@@ -208,7 +212,7 @@ outcome-exactly n l (accepted d items) ss k by = (
 -- ---- the first test that refuses
 
 -- The number of the first test that passes, or x if none does.
-abbrev firstOf : List Rule → ℕ → ℕ
+abbrev pub firstOf : List Rule → ℕ → ℕ
 firstOf [] x = x
 firstOf (t ∷ ts) x = cond (t .when) (t .number) (firstOf ts x)
 
@@ -237,7 +241,7 @@ settled-code b p d (accepted e items) = refl
 
 -- 9 to 14 by a call's six tests: the lengths are right, the record is well formed, the disk is above 63, the call is an open,
 -- the disk is open, its part is sound.
-abbrev tests : (whole formed far opens isOpen sound : Bool) → List Rule
+abbrev pub tests : (whole formed far opens isOpen sound : Bool) → List Rule
 tests whole formed far opens isOpen sound =
     record { number = 9; when = not whole }
     ∷ record { number = 10; when = not formed }
@@ -255,17 +259,17 @@ module _ (b r a : List ℕ) where
   abbrev p : List ℕ
   p = partOf b (diskOf r)
 
-  abbrev opened : Outcome
+  abbrev pub opened : Outcome
   opened = openDisk (nowOf r) (usedLimit r) (promisedLimit r)
 
-  abbrev served : Outcome
+  abbrev pub served : Outcome
   served = answered diskTable (held (partOf b (diskOf r))) (callOf r)
 
-  abbrev lengths : Bool
+  abbrev pub lengths : Bool
   lengths = eqb (length b) boardBytes && eqb (length a) answerSize
 
   -- The code of a call is the number of the first test that refuses it, or the code of the law's outcome.
-  code-by : stepOf b r a .code
+  pub code-by : stepOf b r a .code
       ≡ firstOf (tests lengths (wellFormed r) (leb disks d) (eqb (kindOf r) 1) (openAt b d) (soundPart p))
       (cond (eqb (kindOf r) 1) (outcomeCode opened) (outcomeCode served))
   unfolding stepOf tellOf onBoard serveOf

@@ -1,17 +1,23 @@
--- Refusals 9 to 21 as 01's sentences over bytes, in the order they apply. The list at the end is 01's table.
+-- Refusals 9 to 21 as 01's sentences over bytes, in the order they apply; the list of them is 01's table. And when a claim that none
+-- refuses is granted.
 use Prim.Native.Nat.{ℕ, _≤_, _<_}
 use mathlib.Core.Bool.{true, false, cond}
-use mathlib.Core.List.{List, _∷_}
+use mathlib.Core.List.{List, [], _∷_}
 use mathlib.Core.Logic.{_⊎_}
 use mathlib.Core.Path.{_≡_}
 use lib.Dec.{eqb}
 use lib.ListN.{length}
 use Rattle.num.specs.Opened.{openAt}
+use Rattle.law.specs.declared.Claim.{Claim}
+use Rattle.law.specs.Lists.{All}
+use Rattle.law.specs.Types.{Core, Disk as LawDisk}
+use Rattle.law.specs.Granting.{preconditions, lockStep, bars}
+use Rattle.law.specs.Calls.{at, asked}
 use Rattle.law.specs.Sentences.{Sentence, openSentences, sentencesOf}
 use Rattle.law.specs.Sound.{Sound}
 use Rattle.law.specs.DiskType.{diskTable}
 use Rattle.part.specs.Layout.{decodes}
-use Rattle.desk.specs.Record.{byteAt, kindOf, diskOf, callOf, usedLimit, promisedLimit}
+use Rattle.desk.specs.Record.{byteAt, kindOf, diskOf, askedOf, callOf, usedLimit, promisedLimit}
 use Rattle.desk.specs.Board.{partOf}
 use Rattle.part.specs.Held.{held}
 
@@ -61,3 +67,25 @@ sentences b r a =
     ∷ record { number = 13; says = (kindOf r ≡ 1 → ⊥) × (openAt b (diskOf r) ≡ false) }
     ∷ record { number = 14; says = (kindOf r ≡ 1 → ⊥) × (SoundPart (partOf b (diskOf r)) → ⊥) }
     ∷ ruleSentences b r
+
+-- ---- no refusal
+
+-- None of the sentences holds.
+abbrev pub NoneHold : List Sentence → Type 0
+NoneHold [] = Unit {0}
+NoneHold (s ∷ ss) = (s .says → ⊥) × NoneHold ss
+
+-- Granted: preconditions hold, nothing bars, the lock step passes, fewer than 8 are active.
+pub record Grants (s : Core) (waiting : List Claim) (c : Claim) : Type 0 where
+  pub holds : preconditions diskTable s c ≡ true
+  pub unbarred : All (λ w. bars diskTable s c w ≡ false) waiting
+  pub passes : lockStep diskTable s c ≡ true
+  pub place : length (s .active) < 8
+
+-- The claim of a record is granted on that disk, at its second and with the disk's next ticket.
+abbrev pub GrantsOn : LawDisk → List ℕ → Type 0
+GrantsOn d r = Grants (at d (askedOf r .now)) (d .waiting) (asked d (askedOf r))
+
+-- It is granted on the disk that its part holds.
+abbrev pub GrantsIn : List ℕ → List ℕ → Type 0
+GrantsIn b r = GrantsOn (held (partOf b (diskOf r))) r

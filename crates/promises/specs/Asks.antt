@@ -1,0 +1,59 @@
+-- What was asked on each disk: the claims that calls made, each with its ticket and its record. And what was said of a claim.
+use Prim.Native.Nat.{ℕ}
+use mathlib.Core.Bool.{Bool, cond}
+use mathlib.Core.List.{List, [], _∷_, _++_}
+use mathlib.Core.Logic.{_⊎_}
+use mathlib.Core.Path.{_≡_}
+use lib.Dec.{eqb}
+use lib.IntN.{pos}
+use Rattle.num.specs.Word.{wordAt}
+use Rattle.law.specs.declared.Claim.{Claim}
+use Rattle.law.specs.Types.{claimOf, Item}
+use Rattle.law.specs.Granting.{putTold}
+use Rattle.desk.specs.Record.{kindOf, diskOf, askedOf}
+use Rattle.desk.specs.Step.{Said, refuses, tells}
+use Rattle.promises.specs.Histories.{Call, saidBy, History, after}
+
+-- A claim as it was asked for: without what a grant adds.
+abbrev pub asAsked : Claim → Claim
+asAsked c = putTold c (pos 0) 0
+
+-- An accepted claim: the ticket that it took, and its record.
+pub record Claimed : Type 0 where
+  pub ticket : ℕ
+  pub asks : List ℕ
+
+-- What a call with these items claimed, if its record is a claim's.
+abbrev pub takenBy : Bool → List Item → List ℕ → List Claimed
+takenBy v [] r = []
+takenBy v (i ∷ items) r = cond v (record { ticket = i .ticket; asks = r } ∷ []) []
+
+abbrev pub taken : Said → List ℕ → List Claimed
+taken (refuses x) r = []
+taken (tells items) r = takenBy (eqb (kindOf r) 2) items r
+
+-- On disk d.
+abbrev pub claimedOn : List ℕ → Call → ℕ → List Claimed
+claimedOn b k d = cond (eqb d (diskOf (k .asks))) (taken (saidBy b k) (k .asks)) []
+
+-- By a list of calls.
+unfoldable pub claimed : History → List Call → ℕ → List Claimed
+claimed h [] d = []
+claimed h (k ∷ ks) d = claimedOn (h .board) k d ++ claimed (after h k) ks d
+
+-- P holds of some element.
+abbrev pub Some : {A : Type 0} → (A → Type 0) → List A → Type 0
+Some P [] = ⊥
+Some P (x ∷ xs) = P x ⊎ Some P xs
+
+-- The claim is one of those, with its ticket, and but for told and amount as its record asks.
+abbrev pub AsAsked : List Claimed → Claim → Type 0
+AsAsked past c = Some (λ x. asAsked c ≡ claimOf (askedOf (x .asks)) (x .ticket)) past
+
+-- The claim is one of those, with its ticket, and its own error or stated limit is the one in bytes 20–23 of its record.
+abbrev pub Stated : List Claimed → Claim → Type 0
+Stated past c = Some (λ x. (c .ticket ≡ x .ticket) × (c .error ≡ wordAt (x .asks) 20)) past
+
+-- One of those items granted the claim, with its ticket and the told sum that it has.
+abbrev pub WasGranted : List Item → Claim → Type 0
+WasGranted past c = Some (λ i. (i .code ≡ 0) × ((i .ticket ≡ c .ticket) × (i .told ≡ c .told))) past

@@ -1,0 +1,42 @@
+-- The number of open disks: what its answer says, and exactly when.
+use Prim.Native.Nat.{ℕ}
+use mathlib.Core.Bool.{Bool, true, false, cond}
+use mathlib.Core.List.{List}
+use mathlib.Core.Logic.{_↔_}
+use mathlib.Core.Path.{_≡_, refl}
+use native.Mathlib.Omega.{arith}
+use borrow.Author.Tests.{eqb-true, eqb-false, eq-eqb}
+use lib.Dec.{eqb}
+use lib.ListN.{length}
+use Rattle.num.specs.Count.{countTo}
+use Rattle.num.specs.Opened.{openAt, openCount}
+use Rattle.answer.specs.declared.Refusal.the-variants as R
+use Rattle.answer.specs.Answers.{numberOf}
+use Rattle.desk.specs.declared.board.Count.{Count}
+use Rattle.desk.specs.declared.board.Count.the-variants as C
+use Rattle.desk.specs.Board.{boardBytes}
+use Rattle.desk.specs.Counts.{countOf}
+
+-- 01's number of each case, 0 where it is no refusal; and the value of each.
+abbrev pub numberIn : Count → ℕ
+numberIn (C.Disks n) = 0
+numberIn C.Length = numberOf R.Length
+
+abbrev pub disksIn : Count → ℕ
+disksIn (C.Disks n) = n
+disksIn C.Length = 0
+
+-- 9 exactly of a board of another length.
+pub count-refused-exactly : (b : List ℕ) → (numberIn (countOf b) ≡ 9) ↔ (length b ≡ 49_216 → ⊥)
+unfolding countOf
+count-refused-exactly b = go (eqb (length b) boardBytes) refl
+  where
+    go : (v : Bool) → eqb (length b) boardBytes ≡ v →
+        (numberIn (cond v (C.Disks (openCount b)) C.Length) ≡ 9) ↔ (length b ≡ 49_216 → ⊥)
+    go true v = (λ e. absurd (omega arith), λ h. absurd (h (eqb-true (length b) boardBytes v)))
+    go false v = (λ e. eqb-false (length b) boardBytes v, λ h. refl)
+
+-- Of a board, how many of its 64 bits are set.
+pub count-is : (b : List ℕ) → length b ≡ 49_216 → countOf b ≡ C.Disks (countTo (openAt b) 64)
+unfolding countOf openCount
+count-is b h = rw (eq-eqb (length b) boardBytes h)
