@@ -12,6 +12,7 @@ use Rattle.rules.specs.Answers.{askedOf}
 use Rattle.rules.specs.Disks.{DiskIs}
 use Rattle.part.specs.Layout.{slots, inSlots, decode}
 use Rattle.slots.specs.Slots.{Kept}
+use Rattle.sound.specs.Seen.{SeenIs, Nothing}
 use Rattle.judge.specs.Decisions.{DecidedIs}
 use Rattle.answer.specs.declared.Answer.{Answer}
 use Rattle.answer.specs.Answers.{OwnOnly, Behind}
@@ -65,6 +66,18 @@ decided-unique {ok} {yes} {n} {m} x y = (unique (x .says) (y .says), total ok re
     total : (v : Bool) → ok ≡ v → n ≡ m
     total true e = unique (x .counts e) (y .counts (unique (y .says) (x .says) ∙ e))
     total false e = unique (x .fails e) (y .fails (unique (y .says) (x .says) ∙ e))
+
+-- ---- the soundness test
+
+-- Whether a disk is sound, and what is handed on of it.
+pub seen-unique : (d : LawDisk) {ok yes b : Bool} {n m k l : ℕ} →
+    ok ≡ b → (ok ≡ true → SeenIs n k d) → (ok ≡ false → Nothing n k) →
+    yes ≡ b → (yes ≡ true → SeenIs m l d) → (yes ≡ false → Nothing m l) → (ok ≡ yes) × (n ≡ m) × (k ≡ l)
+seen-unique d {ok} {yes} {b} {n} {m} {k} {l} e f g h i j = (unique e h, handed ok refl .0, handed ok refl .1)
+  where
+    handed : (v : Bool) → ok ≡ v → (n ≡ m) × (k ≡ l)
+    handed true q = let r = unique h e ∙ q in (unique (f q .0) (i r .0), unique (f q .1) (i r .1))
+    handed false q = let r = unique h e ∙ q in (unique (g q .0) (j r .0), unique (g q .1) (j r .1))
 
 -- ---- bytes that are said through what they hold
 

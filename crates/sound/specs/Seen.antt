@@ -52,6 +52,10 @@ mayClash methods twice =
 abbrev pub SeenIs : ℕ → ℕ → LawDisk → Type 0
 SeenIs adds methods d = (adds ≡ sumOf addOf (d .core .active)) × (methods ≡ methodsOf (d .core .active))
 
+-- Of a disk that is not sound, nothing.
+abbrev pub Nothing : ℕ → ℕ → Type 0
+Nothing adds methods = (adds ≡ 0) × (methods ≡ 0)
+
 -- To the walk over the waiting claims: a mask of tickets with which, as long as none has been met again, it decides whether
 -- the claims of the disk meet none.
 abbrev pub Onward : ℕ → ℕ → LawDisk → Type 0

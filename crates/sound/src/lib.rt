@@ -15,7 +15,7 @@ ghost use Rattle.law.specs.Sound.{sound};
 ghost use Rattle.law.specs.DiskType.{diskTable};
 ghost use Rattle.rules.specs.Disks.{diskOf};
 ghost use Rattle.part.specs.Layout.{decode, decodes};
-ghost use Rattle.sound.specs.Seen.{SeenIs};
+ghost use Rattle.sound.specs.Seen.{SeenIs, Nothing};
 use crate::active::actives_fit;
 use crate::figures::figures_hold;
 use crate::tickets::apart;
@@ -38,6 +38,7 @@ pub fn is_sound(s: &[u8]) -> Seen
     requires { ⌜ decodes (now s) ≡ true ⌝ }
     ensures { λ r. ⌜ r .ok ≡ sound diskTable (diskOf (decode (now (s .entry)))) ⌝ }
     ensures { λ r. ⌜ (r .ok ≡ true → SeenIs (r .adds) (r .methods) (diskOf (decode (now (s .entry))))) ⌝ }
+    ensures { λ r. ⌜ (r .ok ≡ false → Nothing (r .adds) (r .methods)) ⌝ }
 {
     if !figures_hold(s) {
         return unsound();
@@ -68,6 +69,7 @@ pub fn is_sound(s: &[u8]) -> Seen
 // A test has failed: nothing is handed on.
 fn unsound() -> Seen
     ensures { λ r. ⌜ r .ok ≡ false ⌝ }
+    ensures { λ r. ⌜ Nothing (r .adds) (r .methods) ⌝ }
 {
     Seen {
         ok: false,

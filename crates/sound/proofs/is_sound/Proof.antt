@@ -33,10 +33,10 @@ went : {r b : Bool} → r ≡ b → not r ≡ false → b ≡ true
 went {r} e h = sym e ∙ not-false r h
 
 -- The test at place j fails: nothing is handed on.
-wrong : (k : tie.Start) (j : ℕ) {ok : Bool} {P : Type 0} → ok ≡ false → getD (codeTests (disk k)) j true ≡ false →
-    (ok ≡ sound diskTable (disk k)) × (ok ≡ true → P)
+wrong : (k : tie.Start) (j : ℕ) {ok : Bool} {P Q : Type 0} → (ok ≡ false) × Q → getD (codeTests (disk k)) j true ≡ false →
+    (ok ≡ sound diskTable (disk k)) × ((ok ≡ true → P) × (ok ≡ false → Q))
 wrong k j h e =
-    (h ∙ test-fails (codeTests (disk k)) j e ∙ whole (k .args .s .now) (k .pre .0) (k .pre .1), λ t. never-true _ (sym h ∙ t))
+    (h .0 ∙ test-fails (codeTests (disk k)) j e ∙ whole (k .args .s .now) (k .pre .0) (k .pre .1), ((λ t. never-true _ (sym (h .0) ∙ t)), λ q. h .1))
 
 -- Where the figures have passed, the active claims, the waiting ones, and all but the tickets.
 module _ (c : tie.Else1) where
@@ -146,12 +146,12 @@ returns-6 : tie.Need-returns-6
 returns-6 c =
     let a = c .before in
     let e = a .before .before .before in
-    (last e (went (a .apart .ensures) (c .if6 .left)), λ h. seen e)
+    (last e (went (a .apart .ensures) (c .if6 .left)), ((λ h. seen e), λ h. never-true _ (sym h)))
 
 returns-7 : tie.Need-returns-7
 returns-7 c =
     let e = c .before .before in
-    (last e (unmet e (c .if5 .left)), λ h. seen e)
+    (last e (unmet e (c .if5 .left)), ((λ h. seen e), λ h. never-true _ (sym h)))
 
 pub is-sound-spec : {M : Type 1} → statement M
 is-sound-spec =

@@ -67,7 +67,7 @@ asked-in-requires c κs = search needs
 serve-claim-requires : tie.Need-serve-claim-requires
 serve-claim-requires c κs =
     let s = c .before .before .before .before .before .before .before .before .before .before .before .before .before .before .before in
-    (s .pre .0, (whole (c .before .before .before .before .before .before .before .before .before), (says-sound diskTable (diskOf (decode (s .args .part .now))) .0 (holds (c .before .before .before .before .before)), (s .pre .1 .1, c .before .before .before .before .before .before .before .is-sound .ensures .1 (not-false _ (c .before .before .before .before .before .if2 .left))))))
+    (s .pre .0, (whole (c .before .before .before .before .before .before .before .before .before), (says-sound diskTable (diskOf (decode (s .args .part .now))) .0 (holds (c .before .before .before .before .before)), (s .pre .1 .1, c .before .before .before .before .before .before .before .is-sound .ensures .1 .0 (not-false _ (c .before .before .before .before .before .if2 .left))))))
 
 same-length-5 : tie.Need-same-length-5
 same-length-5 c = search needs
