@@ -1,10 +1,11 @@
--- What was asked on each disk: the claims that calls made, each with its ticket and its record. And what was said of a claim.
+-- What was asked on each disk: the claims that calls made, each with its ticket and its record; the tickets that were taken. And what
+-- was said of a claim.
 use Prim.Native.Nat.{ℕ}
 use mathlib.Core.Bool.{Bool, cond}
 use mathlib.Core.List.{List, [], _∷_, _++_}
 use mathlib.Core.Logic.{_⊎_}
 use mathlib.Core.Path.{_≡_}
-use lib.Dec.{eqb}
+use lib.Dec.{leb, eqb}
 use lib.IntN.{pos}
 use Rattle.num.specs.Word.{wordAt}
 use Rattle.law.specs.declared.Claim.{Claim}
@@ -12,7 +13,7 @@ use Rattle.law.specs.Types.{claimOf, Item}
 use Rattle.law.specs.Granting.{putTold}
 use Rattle.desk.specs.Record.{kindOf, diskOf, askedOf}
 use Rattle.desk.specs.Step.{Said, refuses, tells}
-use Rattle.promises.specs.Histories.{Call, saidBy, History, after}
+use Rattle.promises.specs.Histories.{Call, saidBy, itemsIn, History, after}
 
 -- A claim as it was asked for: without what a grant adds.
 abbrev pub asAsked : Claim → Claim
@@ -40,6 +41,20 @@ claimedOn b k d = cond (eqb d (diskOf (k .asks))) (taken (saidBy b k) (k .asks))
 unfoldable pub claimed : History → List Call → ℕ → List Claimed
 claimed h [] d = []
 claimed h (k ∷ ks) d = claimedOn (h .board) k d ++ claimed (after h k) ks d
+
+-- The ticket that a call took: that of its own answer, the first item, where it grants a claim (code 0) or lets it wait (code 1).
+abbrev pub tookBy : List Item → List ℕ
+tookBy [] = []
+tookBy (i ∷ items) = cond (leb (i .code) 1) (i .ticket ∷ []) []
+
+-- On disk d.
+abbrev pub tookOn : List ℕ → Call → ℕ → List ℕ
+tookOn b k d = cond (eqb d (diskOf (k .asks))) (tookBy (itemsIn (saidBy b k))) []
+
+-- By a list of calls, in their order.
+unfoldable pub took : History → List Call → ℕ → List ℕ
+took h [] d = []
+took h (k ∷ ks) d = tookOn (h .board) k d ++ took (after h k) ks d
 
 -- P holds of some element.
 abbrev pub Some : {A : Type 0} → (A → Type 0) → List A → Type 0

@@ -34,10 +34,11 @@ use Rattle.promises.specs.Sentences.{WellFormed}
 use Rattle.promises.specs.RefusalLaws.{says-formed}
 use Rattle.promises.specs.Histories.{Call, BytesIn, stepBy, saidBy, begun, lived}
 use Rattle.promises.specs.LifeLaws.{lifeOf, life-sound, Stands, shut, lives, empty-shut, whole-begun, whole-lived}
-use Rattle.promises.specs.Asks.{claimed, AsAsked, Stated, WasGranted}
+use Rattle.promises.specs.Asks.{claimed, took, AsAsked, Stated, WasGranted}
 use Rattle.promises.specs.SomeLaws.{some-say}
 use Rattle.promises.specs.AskedLaws.{lived-asked}
 use Rattle.promises.specs.ToldLaws.{lived-granted}
+use Rattle.promises.specs.TicketLaws.{lived-rises}
 
 -- ---- first half: a reading can rely on what it was told, as long as it is held
 
@@ -74,6 +75,11 @@ granted-once ks bs d h = go (whole-lived begun ks bs whole-begun .each d h)
     go : Stands (lived begun ks .board) (lived begun ks .past d) d → Pairs Once (lived begun ks .past d)
     go (shut o e) = subst (Pairs Once) (sym e) tt
     go (lives o l p e) = subst (Pairs Once) (sym e) (law-granted-once diskTable (l .now) (l .limit0) (l .limit1) (l .calls))
+
+-- All claims take different tickets: of any two calls whose own answer, on that disk, grants a claim or lets it wait, the later one took
+-- the higher ticket.
+pub tickets-once : (ks : List Call) → All BytesIn ks → (d : ℕ) → d < disks → Pairs _<_ (took begun ks d)
+tickets-once ks bs d h = lived-rises begun ks bs whole-begun d h .apart
 
 -- And every reading that is active was granted by an item that was said, with the told sum that stands on the board: none is left out.
 pub readings-told : (ks : List Call) → All BytesIn ks → (d : ℕ) → d < disks → openAt (lived begun ks .board) d ≡ true →
@@ -122,6 +128,11 @@ answer-shows b k n m = rw (eq-eqb (length b) boardBytes n, eq-eqb (length (k .bu
 pub grant-shows : (i : Item) → i .code ≡ 0 → answerOf i ≡ A.Granted (i .ticket) (i .told) (i .amount)
 unfolding answerOf
 grant-shows i e = rw e
+
+-- One that lets a claim wait, with its ticket.
+pub wait-shows : (i : Item) → i .code ≡ 1 → answerOf i ≡ A.Waits (i .ticket)
+unfolding answerOf
+wait-shows i e = rw e
 
 -- ---- second half: no reader pays for another's limit
 

@@ -34,3 +34,4 @@ pub mod CaseLaws
 pub mod LifeLaws
 pub mod AskedLaws
 pub mod ToldLaws
+pub mod TicketLaws

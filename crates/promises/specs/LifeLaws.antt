@@ -115,7 +115,7 @@ module _ (b : List ℕ) (k : Call) where
     unfolding stepOf
     board-9 e = rw (eq-eqb (length b) boardBytes size, e)
 
-    said-9 : eqb (length (k .buffer)) answerSize ≡ false → itemsIn (saidBy b k) ≡ []
+    pub said-9 : eqb (length (k .buffer)) answerSize ≡ false → itemsIn (saidBy b k) ≡ []
     unfolding saidBy
     said-9 e = rw (eq-eqb (length b) boardBytes size, e)
 

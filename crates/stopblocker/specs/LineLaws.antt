@@ -1,25 +1,30 @@
--- Laws of lines: texts put one behind the other, and how long a line can be.
+-- Laws of lines: texts put one behind the other, how long a line can be, and that the lines are those of the answer and its grants.
 use Prim.Native.Nat.{ℕ, zero, suc, _+_, _-_, _*_, _^_, _≤_, _<_}
 use mathlib.Core.Bool.{Bool, true, false, cond}
-use mathlib.Core.List.{List, [], _∷_, _++_}
+use mathlib.Core.List.{List, [], _∷_, _++_, append-assoc}
 use mathlib.Core.Logic.{⊎-elim}
 use mathlib.Core.Path.{_≡_, refl, sym, ap, _∙_}
 use native.Mathlib.Nat.{eq-zero-or-pos}
 use native.Mathlib.Omega.{arith}
-use borrow.Author.Tests.{lt-ltb}
+use borrow.Author.Tests.{lt-ltb, le-ltb, ltb-true, ltb-false, ne-eqb}
+use lib.Dec.{ltb}
 use lib.IntN.{ℤ, pos, negsuc}
-use lib.ListN.{length, length-append}
-use lib.Signed.{natAbs-le}
+use lib.ListN.{length, getD, replicate, length-append, length-replicate, getD-replicate, List·getD-eq-default}
+use lib.Seq.{getD-append-add}
+use lib.Signed.{mag, natAbs-le}
 use Rattle.num.specs.Word.{Bytes, wordAt}
 use Rattle.num.specs.WordLaws.{word-at-fits}
-use Rattle.num.specs.Signed.{signedAt, signed-fits}
+use Rattle.num.specs.Signed.{signedOf, wordOf, signedAt, signed-word, word-fits, signed-fits}
 use Rattle.num.specs.Metric.{size}
-use Rattle.num.specs.Runs.{splice}
+use Rattle.num.specs.Runs.{le4, flat, splice}
 use Rattle.num.specs.RunLaws.{length-splice, splice-splice}
-use Rattle.law.specs.Lists.{never-true}
+use Rattle.law.specs.Lists.{All, never-true}
+use Rattle.answer.specs.declared.Answer.{Answer}
+use Rattle.answer.specs.Answers.{codeOf, ticketOf, toldOf, amountOf, itemBytes, itemsBytes, answerBytes}
+use Rattle.answer.specs.AnswerLaws.{length-item, code-most}
 use Rattle.stopblocker.specs.Text.{decimal, signedText}
 use Rattle.stopblocker.specs.TextLaws.{length-decimal, places-most, places-bound}
-use Rattle.stopblocker.specs.Lines.{next, figures, itemText, lineOf, isGrant, grantLines, linesOf}
+use Rattle.stopblocker.specs.Lines.{next, figures, itemText, lineOf, isGrant, grantLines, linesOf, answerLine, plusLines}
 
 -- ---- one text behind another
 
@@ -81,6 +86,11 @@ module _ (number disk : ℕ) (a : List ℕ) where
   unfolding grantLines
   grants-none zero k h = refl
   grants-none (suc most) k h = rw h
+
+  grants-next : (most k : ℕ) → isGrant a k ≡ true →
+      grantLines (suc most) number disk a k ≡ (43 ∷ lineOf number disk a k) ++ grantLines most number disk a (k + 1)
+  unfolding grantLines
+  grants-next most k h = rw h
 
   pub grants-more : (k : ℕ) → isGrant a k ≡ true →
       grantLines (9 - k) number disk a k ≡ (43 ∷ lineOf number disk a k) ++ grantLines (9 - (k + 1)) number disk a (k + 1)
@@ -146,3 +156,118 @@ module _ (number disk : ℕ) (a : List ℕ) (h : disk < 256) (b : Bytes a) where
 
   pub lines-most : length (linesOf number disk a) ≤ 648
   lines-most = omega (arith, length-lines number disk a, line-most number disk a 0 h b, grants-most 8 1)
+
+-- ---- the lines are those of the answer and its grants
+
+-- An item of 16 bytes holds the figures of an answer.
+pub record ItemFits (x : Answer) : Type 0 where
+  pub ticket : ticketOf x < 2 ^ 32
+  pub told : mag (toldOf x) < 2 ^ 31
+  pub amount : amountOf x < 2 ^ 32
+
+-- A grant's ticket is 1 or more.
+abbrev pub GrantFits : Answer → Type 0
+GrantFits x = ItemFits x × (1 ≤ ticketOf x)
+
+-- The words behind a run of bytes.
+word-behind : (xs ys : List ℕ) (n j : ℕ) → length xs ≡ n → wordAt (xs ++ ys) (n + j) ≡ wordAt ys j
+unfolding wordAt
+word-behind xs ys n j h =
+    let first : getD (xs ++ ys) (n + j) 0 ≡ getD ys j 0 = ap (λ m. getD (xs ++ ys) (m + j) 0) (sym h) ∙ getD-append-add xs ys j 0 in
+    rw (first, byte 1, byte 2, byte 3)
+  where
+    byte : (i : ℕ) → getD (xs ++ ys) (n + j + i) 0 ≡ getD ys (j + i) 0
+    byte i =
+        let e : n + j + i ≡ length xs + (j + i) = omega arith in
+        ap (λ m. getD (xs ++ ys) m 0) e ∙ getD-append-add xs ys (j + i) 0
+
+-- The words of zeros, also past their end.
+word-zeros : (n j : ℕ) → wordAt (replicate n 0) j ≡ 0
+unfolding wordAt
+word-zeros n j = rw (byte j, byte (j + 1), byte (j + 2), byte (j + 3))
+  where
+    byte : (i : ℕ) → getD {A = ℕ} (replicate n 0) i 0 ≡ 0
+    byte i = go (ltb i n) refl
+      where
+        go : (v : Bool) → ltb i n ≡ v → getD {A = ℕ} (replicate n 0) i 0 ≡ 0
+        go true v = getD-replicate n i 0 0 (ltb-true i n v)
+        go false v = List·getD-eq-default (replicate n 0) 0 {n = i} (omega (arith, ltb-false i n v, length-replicate {A = ℕ} n 0))
+
+four-words : (c t w m : ℕ) (rest : List ℕ) → c < 2 ^ 32 → t < 2 ^ 32 → w < 2 ^ 32 → m < 2 ^ 32 →
+    (wordAt (flat (c ∷ t ∷ w ∷ m ∷ []) ++ rest) 0 ≡ c)
+    × (wordAt (flat (c ∷ t ∷ w ∷ m ∷ []) ++ rest) 4 ≡ t)
+    × (wordAt (flat (c ∷ t ∷ w ∷ m ∷ []) ++ rest) 8 ≡ w)
+    × (wordAt (flat (c ∷ t ∷ w ∷ m ∷ []) ++ rest) 12 ≡ m)
+unfolding flat le4 wordAt
+four-words c t w m rest hc ht hw hm = (omega arith, omega arith, omega arith, omega arith)
+
+-- An answer's item stands behind k others.
+module _ (k : ℕ) (front : List ℕ) (h : length front ≡ 16 * k) (x : Answer) (rest : List ℕ) (f : ItemFits x) where
+  abbrev whole : List ℕ
+  whole = front ++ (itemBytes x ++ rest)
+
+  item-words :
+      (wordAt (itemBytes x ++ rest) 0 ≡ codeOf x)
+      × (wordAt (itemBytes x ++ rest) 4 ≡ ticketOf x)
+      × (wordAt (itemBytes x ++ rest) 8 ≡ wordOf (toldOf x))
+      × (wordAt (itemBytes x ++ rest) 12 ≡ amountOf x)
+  unfolding itemBytes
+  item-words =
+      four-words (codeOf x) (ticketOf x) (wordOf (toldOf x)) (amountOf x) rest
+      (omega (arith, code-most x)) (f .ticket) (word-fits (toldOf x) (f .told)) (f .amount)
+
+  code-there : wordAt whole (16 * k) ≡ codeOf x
+  code-there =
+      let e : 16 * k ≡ 16 * k + 0 = omega arith in
+      ap (wordAt whole) e ∙ (word-behind front (itemBytes x ++ rest) (16 * k) 0 h ∙ item-words .0)
+
+  ticket-there : wordAt whole (16 * k + 4) ≡ ticketOf x
+  ticket-there = word-behind front (itemBytes x ++ rest) (16 * k) 4 h ∙ item-words .1
+
+  told-there : signedAt whole (16 * k + 8) ≡ toldOf x
+  told-there =
+      ap signedOf (word-behind front (itemBytes x ++ rest) (16 * k) 8 h ∙ item-words .2) ∙ signed-word (toldOf x) (f .told)
+
+  amount-there : wordAt whole (16 * k + 12) ≡ amountOf x
+  amount-there = word-behind front (itemBytes x ++ rest) (16 * k) 12 h ∙ item-words .3
+
+  line-shown : (number disk : ℕ) → lineOf number disk whole k ≡ answerLine number disk x
+  unfolding lineOf answerLine
+  line-shown number disk = rw (code-there, ticket-there, told-there, amount-there)
+
+  grant-shown : k ≤ 8 → 1 ≤ ticketOf x → isGrant whole k ≡ true
+  unfolding isGrant
+  grant-shown l t = rw (le-ltb 8 k l, ticket-there, ne-eqb (ticketOf x) 0 (λ e. omega arith))
+
+-- Behind the last grant the buffer is zero: no line.
+none-shown : (k : ℕ) (front : List ℕ) → length front ≡ 16 * k → (n : ℕ) → isGrant (front ++ replicate n 0) k ≡ false
+unfolding isGrant
+none-shown k front h n =
+    rw (word-behind front (replicate n 0) (16 * k) 4 h, word-zeros n 4) (by-bool (λ t. cond t false false ≡ false) refl refl (ltb 8 k))
+
+grants-shown : (number disk : ℕ) (gs : List Answer) (most k : ℕ) (front : List ℕ) (n : ℕ) → length front ≡ 16 * k → length gs ≤ most →
+    k + most ≤ 9 → All GrantFits gs →
+    grantLines most number disk (front ++ (itemsBytes gs ++ replicate n 0)) k ≡ plusLines number disk gs
+unfolding itemsBytes plusLines
+grants-shown number disk [] most k front n h l m fs = grants-none number disk (front ++ replicate n 0) most k (none-shown k front h n)
+grants-shown number disk (g ∷ gs) zero k front n h l m fs = absurd (omega arith)
+grants-shown number disk (g ∷ gs) (suc most) k front n h l m fs =
+    let rest : List ℕ = itemsBytes gs ++ replicate n 0 in
+    let all : List ℕ = front ++ (itemBytes g ++ rest) in
+    let more : grantLines most number disk all (k + 1) ≡ plusLines number disk gs =
+    ap (λ (s : List ℕ). grantLines most number disk s (k + 1)) (sym (append-assoc front (itemBytes g) rest))
+    ∙ grants-shown number disk gs most (k + 1) (front ++ itemBytes g) n
+    (omega (arith, length-append front (itemBytes g), length-item g)) (omega arith) (omega arith) (fs .1) in
+    ap (λ (s : List ℕ). grantLines (suc most) number disk (front ++ s) k) (append-assoc (itemBytes g) (itemsBytes gs) (replicate n 0))
+    ∙ (grants-next number disk all most k (grant-shown k front h g rest (fs .0 .0) (omega arith) (fs .0 .1))
+    ∙ rw (line-shown k front h g rest (fs .0 .0) number disk, more))
+
+-- The lines of an answer and at most 8 grants are the answer's line and one line for each grant, in order, with its figures.
+pub lines-shown : (number disk : ℕ) (own : Answer) (grants : List Answer) → ItemFits own → length grants ≤ 8 → All GrantFits grants →
+    linesOf number disk (answerBytes own grants) ≡ answerLine number disk own ++ plusLines number disk grants
+unfolding linesOf answerBytes
+lines-shown number disk own grants f l fs =
+    rw (
+      line-shown 0 [] refl own (itemsBytes grants ++ replicate (128 - 16 * length grants) 0) f number disk,
+      grants-shown number disk grants 8 1 (itemBytes own) (128 - 16 * length grants) (length-item own) l (omega arith) fs,
+    )

@@ -6,6 +6,8 @@ use lib.Dec.{eqb, ltb}
 use lib.IntN.{ℤ}
 use Rattle.num.specs.Word.{wordAt}
 use Rattle.num.specs.Signed.{signedAt}
+use Rattle.answer.specs.declared.Answer.{Answer}
+use Rattle.answer.specs.Answers.{codeOf, ticketOf, toldOf, amountOf}
 use Rattle.stopblocker.specs.Text.{decimal, signedText}
 
 -- A space is 32, the end of a line 10, a plus 43.
@@ -36,3 +38,14 @@ grantLines (suc most) number disk a k =
 -- All lines of a record's answer.
 unfoldable pub linesOf : ℕ → ℕ → List ℕ → List ℕ
 linesOf number disk a = lineOf number disk a 0 ++ grantLines 8 number disk a 1
+
+-- ---- the same by what was answered, and not by the bytes that show it
+
+-- The line of an answer.
+unfoldable pub answerLine : ℕ → ℕ → Answer → List ℕ
+answerLine number disk x = decimal number ++ (next disk ++ figures (codeOf x) (ticketOf x) (toldOf x) (amountOf x))
+
+-- A line for each of these, in order, "+" before the number.
+unfoldable pub plusLines : ℕ → ℕ → List Answer → List ℕ
+plusLines number disk [] = []
+plusLines number disk (x ∷ more) = (43 ∷ answerLine number disk x) ++ plusLines number disk more

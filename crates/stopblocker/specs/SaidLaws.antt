@@ -1,0 +1,271 @@
+-- Laws: what a call says fits the items of the answer buffer, on any board, and a pass grants at most 8 claims, each with a ticket.
+use Prim.Native.Nat.{ℕ, _+_, _^_, _≤_, _<_}
+use mathlib.Core.Bool.{Bool, true, false, cond}
+use mathlib.Core.List.{List, [], _∷_, _++_}
+use mathlib.Core.Path.{_≡_, refl}
+use native.Mathlib.Omega.{arith}
+use borrow.Author.Tests.{ltb-false}
+use lib.Dec.{leb, eqb}
+use lib.IntN.{ℤ, pos, negsuc}
+use lib.ListN.{length, length-append, length-map}
+use lib.Signed.{mag}
+use Rattle.num.specs.Word.{Bytes, wordAt}
+use Rattle.num.specs.WordLaws.{word-at-fits}
+use Rattle.num.specs.Opened.{openAt}
+use Rattle.num.specs.Metric.{size}
+use Rattle.law.specs.declared.Claim.{Claim}
+use Rattle.law.specs.Lists.{All, all-say, all-append, all-there, all-map, length-more}
+use Rattle.law.specs.Types.{mostError, Attribute, a0, a1, a2, Kind, sets, adds, reads, properKind, Figures, attr, Core, Disk as LawDisk, Item, Outcome, refused, accepted}
+use Rattle.law.specs.Fields.{ValueFits, FieldsFit}
+use Rattle.law.specs.Sound.{LimitFits, Sound}
+use Rattle.law.specs.Entries.{kindOf}
+use Rattle.law.specs.Granting.{tellBy, limitBy, granted, grantItem}
+use Rattle.law.specs.Calls.{item, at, asked, opened, openRefusals, openDisk, finish, without}
+use Rattle.law.specs.History.{Call as LawCall, claims, releases, answered}
+use Rattle.law.specs.Events.{After, unless-after, claim-after, release-after, pass-keeps}
+use Rattle.law.specs.AttributeLaws.{told-range}
+use Rattle.law.specs.GrantLaws.{grant-says}
+use Rattle.law.specs.FitLaws.{Fit, fit-grant}
+use Rattle.law.specs.SoundKept.{sound-fit, sound-finish}
+use Rattle.law.specs.ProperLaws.{proper-kind, disk-proper}
+use Rattle.law.specs.DiskType.{diskTable}
+use Rattle.part.specs.Held.{held, soundPart}
+use Rattle.part.specs.PartLaws.{sound-held}
+use Rattle.answer.specs.declared.Answer.{Answer}
+use Rattle.answer.specs.declared.Answer.the-variants as A
+use Rattle.answer.specs.declared.Refusal.the-variants as R
+use Rattle.answer.specs.Answers.{codeOf, ticketOf}
+use Rattle.desk.specs.Record.{wellFormed, kindOf as kindByte, diskOf, nowOf, askedOf, callOf, usedLimit, promisedLimit}
+use Rattle.desk.specs.Board.{disks, partOf}
+use Rattle.desk.specs.Step.{answerOf, Said, refuses, tells, ownOf, grantsOf, refusing, settled, serveOf, onPart, opening, onDisk, onBoard, tellOf}
+use Rattle.stopblocker.specs.LineLaws.{ItemFits, GrantFits}
+
+-- ---- items
+
+-- The figures of an item fit their four bytes.
+pub record Fits (i : Item) : Type 0 where
+  pub ticket : i .ticket < 2 ^ 32
+  pub told : mag (i .told) < 2 ^ 31
+  pub amount : i .amount < 2 ^ 32
+
+-- An item that grants a claim of a ticket.
+pub record Grants (i : Item) : Type 0 where
+  pub granting : i .code ≡ 0
+  pub first : 1 ≤ i .ticket
+  pub fits : Fits i
+
+-- An item of a ticket alone.
+alone-fits : (code ticket : ℕ) → ticket < 2 ^ 32 → Fits (item code ticket)
+alone-fits code ticket h = record { ticket = h; told = omega arith; amount = omega arith }
+
+-- ---- a grant
+
+size-told : (z : ℤ) → size z ≤ mostError → mag z < 2 ^ 31
+size-told (pos n) h = omega arith
+size-told (negsuc n) h = omega arith
+
+module _ (f : Figures) where
+  told-by : (k : Kind) → properKind k ≡ true → ((a : Attribute) → ValueFits a (attr f a .value)) → size (tellBy f k) ≤ mostError
+  told-by (sets a) p h = omega arith
+  told-by (adds a) p h = omega arith
+  told-by (reads m) p h = told-range f m p h
+
+  limit-most : (a : Attribute) (n : ℕ) → LimitFits a n → n < 2 ^ 32
+  limit-most a0 n h = omega arith
+  limit-most a1 n h = omega arith
+  limit-most a2 n h = omega arith
+
+  limit-by : (k : Kind) (e : ℕ) → ((a : Attribute) → LimitFits a (attr f a .limit)) → e < 2 ^ 32 → limitBy f k e < 2 ^ 32
+  limit-by (sets a) e h l = limit-most a (attr f a .limit) (h a)
+  limit-by (adds a) e h l = limit-most a (attr f a .limit) (h a)
+  limit-by (reads m) e h l = l
+
+grant-fits : (s : Core) (ahead : List Claim) (c : Claim) → granted diskTable s ahead c ≡ true →
+    ((a : Attribute) → ValueFits a (attr (s .figures) a .value)) → ((a : Attribute) → LimitFits a (attr (s .figures) a .limit)) →
+    c .error < 2 ^ 32 → 1 ≤ c .ticket → c .ticket < 2 ^ 32 → Grants (grantItem diskTable s c)
+unfolding grantItem
+grant-fits s ahead c g values limits e first below =
+    record {
+      granting = refl;
+      first = first;
+      fits =
+          record {
+            ticket = below;
+            told = size-told (tellBy (s .figures) (kindOf diskTable c)) (told-by (s .figures) (kindOf diskTable c) (proper-kind diskTable disk-proper (c .method)) values);
+            amount = omega (arith, grant-says diskTable s ahead c g .inLimit, limit-by (s .figures) (kindOf diskTable c) (c .error) limits e);
+          };
+    }
+
+-- ---- a pass
+
+error-most : (now : ℕ) (k : Kind) (c : Claim) → FieldsFit now k c → c .error < 2 ^ 32
+error-most now (sets a) c h = omega (arith, h .3)
+error-most now (adds a) c h = omega (arith, h .3)
+error-most now (reads m) c h = omega (arith, h .2)
+
+-- What a pass has granted so far, and what still waits.
+abbrev PassFits : ℕ → Core → List Claim → List Item → Type 0
+PassFits next s ws items = Fit diskTable s ws next × All Grants items × (length items + length ws ≤ 8)
+
+turn-fits : (next : ℕ) (s : Core) (ahead : List Claim) (c : Claim) (rest : List Claim) (items : List Item) →
+    granted diskTable s ahead c ≡ true → PassFits next s (ahead ++ (c ∷ rest)) items → Grants (grantItem diskTable s c)
+turn-fits next s ahead c rest items g h =
+    let fits = all-there _ ahead c rest (h .0 .claims .waiting) in
+    grant-fits s ahead c g (λ a. h .0 .attrs a .value) (λ a. h .0 .attrs a .limit)
+    (error-most (s .clock) (kindOf diskTable c) c (fits .passes .fields))
+    (fits .first)
+    (omega (arith, all-there (λ x. x .ticket < next) ahead c rest (h .0 .claims .tickets .belowWaiting), h .0 .claims .nextLast))
+
+-- ---- a call on one disk
+
+-- The items of a call: its own, and the grants of its pass.
+abbrev pub ItemsFit : List Item → Type 0
+ItemsFit [] = Unit {0}
+ItemsFit (i ∷ items) = Fits i × All Grants items × (length items ≤ 8)
+
+-- A call such as the bytes of a record hold.
+abbrev CallFits : LawCall → Type 0
+CallFits (claims q) = q .error < 2 ^ 32
+CallFits (releases now n) = n < 2 ^ 32
+
+call-fits : (d : LawDisk) (k : LawCall) → Sound diskTable d → CallFits k → After (λ e items. ItemsFit items) (answered diskTable d k)
+call-fits d (claims q) h f =
+    claim-after diskTable (λ e items. ItemsFit items) d q
+    (λ ok g.
+    (grant-fits (at d (q .now)) (d .waiting) (asked d q) g (h .values) (h .limits) f (h .nextFirst) (omega (arith, h .nextLast)) .fits, tt, omega arith))
+    (λ ok g. (alone-fits 1 (d .next) (omega (arith, h .nextLast)), tt, omega arith))
+call-fits d (releases now n) h f =
+    release-after diskTable (λ e items. ItemsFit items) d now n
+    (λ ok.
+    let left : Sound diskTable (record { core = finish diskTable (at d now) n; waiting = without n (d .waiting); next = d .next }) =
+    sound-finish diskTable disk-proper d now n (ltb-false now (d .core .clock) (ok .0)) h in
+    let passed =
+    pass-keeps diskTable (PassFits (d .next))
+    (λ s ahead c rest items g k. (
+      fit-grant diskTable disk-proper ahead c ahead rest g (k .0),
+      all-append Grants items (grantItem diskTable s c ∷ []) (k .1) (turn-fits (d .next) s ahead c rest items g k, tt),
+      omega (arith, length-append items (grantItem diskTable s c ∷ []), length-more ahead c rest, k .2),
+    ))
+    (record { core = finish diskTable (at d now) n; ahead = []; items = [] })
+    (without n (d .waiting))
+    (sound-fit diskTable left, tt, omega (arith, left .fewWaiting)) in
+    (alone-fits 2 n f, passed .1, omega (arith, passed .2)))
+
+-- ---- a call on a board
+
+abbrev pub SaidFits : Said → Type 0
+SaidFits (refuses x) = Unit {0}
+SaidFits (tells items) = ItemsFit items
+
+settled-fits : (p : List ℕ) (o : Outcome) → After (λ e items. ItemsFit items) o → SaidFits (settled p o .said)
+settled-fits p (refused n) h = tt
+settled-fits p (accepted e items) h = h
+
+opening-fits : (b : List ℕ) (d : ℕ) (o : Outcome) → After (λ e items. ItemsFit items) o → SaidFits (opening b d o .said)
+opening-fits b d (refused n) h = tt
+opening-fits b d (accepted e items) h = h
+
+open-fits : (now l0 l1 : ℕ) → After (λ e items. ItemsFit items) (openDisk now l0 l1)
+unfolding openDisk
+open-fits now l0 l1 =
+    unless-after (λ e items. ItemsFit items) (openRefusals l0 l1) (accepted (opened now l0 l1) (item 3 0 ∷ []))
+    (λ ok. (alone-fits 3 0 (omega arith), tt, omega arith))
+
+module _ (b r : List ℕ) (bs : Bytes r) where
+  record-fits : CallFits (callOf r)
+  unfolding askedOf
+  record-fits = go (eqb (kindByte r) 2)
+    where
+      go : (v : Bool) → CallFits (cond v (claims (askedOf r)) (releases (nowOf r) (wordAt r 12)))
+      go true = word-at-fits r 20 bs
+      go false = word-at-fits r 12 bs
+
+  serve-fits : (p : List ℕ) → SaidFits (serveOf p (callOf r) .said)
+  unfolding serveOf
+  serve-fits p = go (soundPart p) refl
+    where
+      go : (v : Bool) → soundPart p ≡ v → SaidFits (cond v (settled p (answered diskTable (held p) (callOf r))) (refusing p R.Unsound) .said)
+      go true s = settled-fits p (answered diskTable (held p) (callOf r)) (call-fits (held p) (callOf r) (sound-held p s) record-fits)
+      go false s = tt
+
+  disk-fits : (d : ℕ) → SaidFits (onDisk b r d .said)
+  disk-fits d = go (eqb (kindByte r) 1) (openAt b d)
+    where
+      go : (v o : Bool) →
+          SaidFits
+          (cond v
+          (cond o (refusing b R.Open) (opening b d (openDisk (nowOf r) (usedLimit r) (promisedLimit r))))
+          (cond o (onPart b d (serveOf (partOf b d) (callOf r))) (refusing b R.Closed))
+          .said)
+      go true true = tt
+      go true false =
+          opening-fits b d (openDisk (nowOf r) (usedLimit r) (promisedLimit r)) (open-fits (nowOf r) (usedLimit r) (promisedLimit r))
+      go false true = serve-fits (partOf b d)
+      go false false = tt
+
+  pub told-fits : SaidFits (tellOf b r .said)
+  unfolding tellOf onBoard
+  told-fits = go (wellFormed r) (leb disks (diskOf r))
+    where
+      go : (v u : Bool) →
+          SaidFits (cond v (cond u (refusing b R.Disk) (onDisk b r (diskOf r))) (refusing b R.Record) .said)
+      go false u = tt
+      go true true = tt
+      go true false = disk-fits (diskOf r)
+
+-- ---- what is said, as answers
+
+item-fits : (i : Item) → Fits i → ItemFits (answerOf i)
+unfolding answerOf
+item-fits i f = go (eqb (i .code) 0) (eqb (i .code) 1) (eqb (i .code) 2)
+  where
+    go : (u v w : Bool) →
+        ItemFits (cond u (A.Granted (i .ticket) (i .told) (i .amount)) (cond v (A.Waits (i .ticket)) (cond w (A.Released (i .ticket)) A.Opened)))
+    go true v w = record { ticket = f .ticket; told = f .told; amount = f .amount }
+    go false true w = record { ticket = f .ticket; told = omega arith; amount = omega arith }
+    go false false true = record { ticket = f .ticket; told = omega arith; amount = omega arith }
+    go false false false = record { ticket = omega arith; told = omega arith; amount = omega arith }
+
+-- The answer of an item that grants.
+answer-is : (i : Item) → i .code ≡ 0 → answerOf i ≡ A.Granted (i .ticket) (i .told) (i .amount)
+unfolding answerOf
+answer-is i e = rw e
+
+-- It grants, and has a ticket.
+abbrev pub Granting : Answer → Type 0
+Granting x = (codeOf x ≡ 0) × (1 ≤ ticketOf x)
+
+granting : (i : Item) → Grants i → Granting (answerOf i)
+granting i g = rw (answer-is i (g .granting)) (refl, g .first)
+
+-- The own answer fits, the grants are at most 8, and each of them fits and grants.
+pub record Shows (s : Said) : Type 0 where
+  pub own : ItemFits (ownOf s)
+  pub few : length (grantsOf s) ≤ 8
+  pub fit : All GrantFits (grantsOf s)
+  pub grant : All Granting (grantsOf s)
+
+pub shows : (s : Said) → SaidFits s → Shows s
+shows (refuses x) h =
+    record {
+      own = record { ticket = omega arith; told = omega arith; amount = omega arith };
+      few = omega arith;
+      fit = tt;
+      grant = tt;
+    }
+shows (tells []) h =
+    record {
+      own = record { ticket = omega arith; told = omega arith; amount = omega arith };
+      few = omega arith;
+      fit = tt;
+      grant = tt;
+    }
+shows (tells (i ∷ items)) h =
+    record {
+      own = item-fits i (h .0);
+      few = omega (arith, length-map items answerOf, h .2);
+      fit =
+          all-map GrantFits answerOf items
+          (all-say Grants (λ j. GrantFits (answerOf j)) (λ j g. (item-fits j (g .fits), granting j g .1)) items (h .1));
+      grant = all-map Granting answerOf items (all-say Grants (λ j. Granting (answerOf j)) granting items (h .1));
+    }
