@@ -103,7 +103,7 @@ module _ (t : Table) where
 
   -- A reading starts at the error that the figures carry.
   pub start-reads : (s : Core) (c : Claim) (m : ℕ) → kindOf t c ≡ reads m → start t s c ≡ carried (s .figures) m
-  start-reads s c m p = ap (λ (k : Kind). startBy (s .figures) k (c .error)) p
+  start-reads s c m p = rw p
 
   -- 01's lock step word by word: each active claim in turn, the total n tested wherever something was added to it.
   unfoldable pub walked : Core → Claim → ℕ → List Claim → Bool
