@@ -8,7 +8,7 @@ use Rattle.num.specs.Word.{wordAt}
 use Rattle.num.specs.Signed.{signedAt}
 use Rattle.num.specs.Runs.{allZero}
 use Rattle.law.specs.Base.{allTrue}
-use Rattle.law.specs.Types.{Asked}
+use Rattle.law.specs.Types.{mostFlag, Asked}
 use Rattle.law.specs.History.{Call, claims, releases}
 
 abbrev pub byteAt : List ℕ → ℕ → ℕ
@@ -50,7 +50,7 @@ wellFormed r =
     ∷ eqb (byteAt r 0) 0x52
     ∷ eqb (byteAt r 1) 0x42
     ∷ eqb (byteAt r 7) 0
-    ∷ leb (byteAt r 6) 1
+    ∷ leb (byteAt r 6) mostFlag
     ∷ kindFits r (kindOf r)
     ∷ [])
 

@@ -12,6 +12,9 @@ use rules::disk::Asked;
 
 const RECORD_BYTES: usize = 24;
 
+// A fresh flag is 0 to this.
+const MOST_FLAG: u8 = 1;
+
 // Whether a record is well formed: no refusal 10.
 pub fn well_formed(r: &[u8]) -> bool
     ensures { λ ok. ⌜ ok ≡ wellFormed (now (r .entry)) ⌝ }
@@ -28,7 +31,7 @@ pub fn well_formed(r: &[u8]) -> bool
     if r[7] != 0 {
         return false;
     }
-    if 1 < r[6] {
+    if MOST_FLAG < r[6] {
         return false;
     }
     kind_fits(r, r[2])

@@ -17,7 +17,7 @@ use Rattle.law.specs.Base.{allTrue, everyOf, anyOf, sumOf}
 use Rattle.law.specs.Types.{Kind, sets, adds, reads, Figures}
 use Rattle.law.specs.Entries.{kindAt, kindOf, entryBy, entry, isAlways, isNever}
 use Rattle.law.specs.Lists.{All, all-say, never-true, sum-zero}
-use Rattle.law.specs.Granting.{limitBy, startBy, gapBy, costBy, raisesBy, cost, stays, total, lockStep}
+use Rattle.law.specs.Granting.{limitBy, gapBy, costBy, raisesBy, start, cost, stays, total, lockStep}
 use Rattle.law.specs.DiskType.{diskTable}
 use Rattle.claims.specs.Rows.{Row, noClaim}
 use Rattle.claims.specs.RowLaws.{left-on, left-end}
@@ -90,7 +90,7 @@ module _ (f : Figures) (c : Claim) (ws : List Claim) where
       lets-by (entry diskTable w c) (kindOf diskTable c) (w .amount) (w .error) (c .error + gapBy f (kindOf diskTable c) (c .value))
 
   -- The starting amount and what each active claim adds.
-  pub total-is : startBy f (kindOf diskTable c) (c .error) + sumOf (costOf f c) ws ≡ total diskTable (coreOf f 0 ws) c
+  pub total-is : start diskTable (coreOf f 0 ws) c + sumOf (costOf f c) ws ≡ total diskTable (coreOf f 0 ws) c
   unfolding total
   total-is = rw (sum-same (costOf f c) (cost diskTable (coreOf f 0 ws) c) cost-is ws)
 

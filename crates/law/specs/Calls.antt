@@ -158,11 +158,18 @@ module _ (t : Table) where
   abbrev pub withWait : Disk → Asked → Disk
   withWait d q = record { core = at d (q .now); waiting = queue (asked d q) (d .waiting); next = d .next + 1 }
 
-  abbrev pub decided : Disk → Asked → Outcome
-  decided d q =
-      cond (grantedAtOnce d q)
+  -- The answer of a claim that waits: only its ticket.
+  abbrev pub waitItem : Disk → Asked → Item
+  waitItem d q = item 1 (d .next)
+
+  abbrev pub decidedBy : Bool → Disk → Asked → Outcome
+  decidedBy ok d q =
+      cond ok
       (accepted (withGrant d q) (grantItem t (at d (q .now)) (asked d q) ∷ []))
-      (accepted (withWait d q) (item 1 (d .next) ∷ []))
+      (accepted (withWait d q) (waitItem d q ∷ []))
+
+  abbrev pub decided : Disk → Asked → Outcome
+  decided d q = decidedBy (grantedAtOnce d q) d q
 
   unfoldable pub claim : Disk → Asked → Outcome
   claim d q = unless (refusals d q) (decided d q)

@@ -7,7 +7,7 @@ use Rattle.law.specs.declared.Claim.{Claim}
 use Rattle.law.specs.Lists.{All}
 use Rattle.law.specs.Types.{Table, Core, Disk, Asked, Item, Outcome, refused, accepted}
 use Rattle.law.specs.Granting.{granted, grant, grantItem}
-use Rattle.law.specs.Calls.{Rule, unless, Passing, item, asked, at, grantedAtOnce, refusals, decided, claim, turn, passOver, letGo, releaseRefusals, release, withGrant, withWait, withEnd}
+use Rattle.law.specs.Calls.{Rule, unless, Passing, item, asked, at, grantedAtOnce, refusals, waitItem, decidedBy, decided, claim, turn, passOver, letGo, releaseRefusals, release, withGrant, withWait, withEnd}
 use Rattle.law.specs.History.{Call, History, after, answered, lived}
 
 -- P holds of the new disk and the items, if the call is accepted.
@@ -31,7 +31,7 @@ module _ (t : Table) where
   -- A claim that is accepted is granted or waits.
   pub claim-after : (P : Disk → List Item → Type 0) (d : Disk) (q : Asked) →
       (NoneHolds (refusals t d q) → grantedAtOnce t d q ≡ true → P (withGrant t d q) (grantItem t (at d (q .now)) (asked d q) ∷ [])) →
-      (NoneHolds (refusals t d q) → grantedAtOnce t d q ≡ false → P (withWait t d q) (item 1 (d .next) ∷ [])) →
+      (NoneHolds (refusals t d q) → grantedAtOnce t d q ≡ false → P (withWait t d q) (waitItem t d q ∷ [])) →
       After P (claim t d q)
   unfolding claim
   claim-after P d q grants waits =
@@ -39,11 +39,8 @@ module _ (t : Table) where
     where
       go : (b : Bool) → grantedAtOnce t d q ≡ b →
           (grantedAtOnce t d q ≡ true → P (withGrant t d q) (grantItem t (at d (q .now)) (asked d q) ∷ [])) →
-          (grantedAtOnce t d q ≡ false → P (withWait t d q) (item 1 (d .next) ∷ [])) →
-          After P
-          (cond b
-          (accepted (withGrant t d q) (grantItem t (at d (q .now)) (asked d q) ∷ []))
-          (accepted (withWait t d q) (item 1 (d .next) ∷ [])))
+          (grantedAtOnce t d q ≡ false → P (withWait t d q) (waitItem t d q ∷ [])) →
+          After P (decidedBy t b d q)
       go true e g w = g e
       go false e g w = w e
 

@@ -101,6 +101,10 @@ module _ (t : Table) where
       let p = passed (preconditionTests t s c) pre in
       start-by s (kindOf t c) (c .error) own (p .1 .0) (p .1 .1 .0)
 
+  -- A reading starts at the error that the figures carry.
+  pub start-reads : (s : Core) (c : Claim) (m : ℕ) → kindOf t c ≡ reads m → start t s c ≡ carried (s .figures) m
+  start-reads s c m p = rw p
+
   -- 01's lock step word by word: each active claim in turn, the total n tested wherever something was added to it.
   unfoldable pub walked : Core → Claim → ℕ → List Claim → Bool
   walked s c n [] = true

@@ -16,8 +16,9 @@ use Rattle.law.specs.declared.Entry.the-variants.{A, N, G}
 use Rattle.law.specs.Base.{allTrue, everyOf, anyOf}
 use Rattle.law.specs.Lists.{All, all-say, all-passed, every-tests, none-tests, sum-zero}
 use Rattle.law.specs.Types.{mostError, places, lastTicket, Attribute, a0, a1, a2, metric, within, Kind, sets, adds, reads, Table, attr, Core, Disk, Asked, Item, accepted}
-use Rattle.law.specs.Granting.{costBy, raisesBy, limitBy, startBy, tellBy, carriedBy, fresh, addable, bearable, ranged, preconditions, limit, gap, cost, total, stays, lockStep, bars, grantTests, granted, grantItem}
-use Rattle.law.specs.Calls.{fieldTests, ownFits, asked, at, grantedAtOnce, refusals, withGrant, withWait, item, decided, claim}
+use Rattle.law.specs.Granting.{costBy, raisesBy, limitBy, tellBy, carriedBy, fresh, addable, bearable, ranged, preconditions, limit, gap, cost, total, stays, lockStep, bars, grantTests, granted, grantItem}
+use Rattle.law.specs.GrantLaws.{start-reads}
+use Rattle.law.specs.Calls.{fieldTests, ownFits, asked, at, grantedAtOnce, refusals, withGrant, decidedBy, decided, claim}
 use Rattle.law.specs.Events.{NoneHolds}
 use Rattle.law.specs.Refusals.{accepted-otherwise}
 use Rattle.law.specs.Entries.{entryBy, isAlways, isNever, kindAt, kindOf, entry}
@@ -140,7 +141,7 @@ module _ (t : Table) (d : Disk) (q : Asked) (m : ℕ) (r : Reading t q m) (c : F
   free-total =
       omega (
         arith,
-        ap (λ (k : Kind). startBy (d .core .figures) k (q .error)) (r .kind),
+        start-reads t s (asked d q) m (r .kind),
         sum-zero (cost t s (asked d q)) (d .core .active)
             (all-say
             (λ w. writesWhat m (kindOf t w) ≡ false)
@@ -228,10 +229,5 @@ module _ (t : Table) (d : Disk) (q : Asked) (m : ℕ) (r : Reading t q m) (c : F
   unfolding claim s
   granted-at-once =
       accepted-otherwise (refusals t d q) (decided t d q) free-refusals
-      ∙ ap
-      (λ (b : Bool).
-      cond b
-      (accepted (withGrant t d q) (grantItem t (at d (q .now)) (asked d q) ∷ []))
-      (accepted (withWait t d q) (item 1 (d .next) ∷ [])))
-      free-granted
+      ∙ ap (λ (b : Bool). decidedBy t b d q) free-granted
       ∙ ap (λ (i : Item). accepted (withGrant t d q) (i ∷ [])) free-item

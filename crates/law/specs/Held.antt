@@ -14,7 +14,8 @@ use Rattle.law.specs.declared.Entry.the-variants.{A, N, G}
 use Rattle.law.specs.Base.{sumOf}
 use Rattle.law.specs.Lists.{All, never-true}
 use Rattle.law.specs.Types.{Attribute, within, metric, Kind, sets, adds, reads, Table, Figures, attr, Core}
-use Rattle.law.specs.Granting.{gapBy, startBy, costBy, raisesBy, tellBy, amountBy, gap, stays, total, raised, asGranted, grant}
+use Rattle.law.specs.Granting.{gapBy, costBy, raisesBy, tellBy, amountBy, gap, stays, total, raised, asGranted, grant}
+use Rattle.law.specs.GrantLaws.{start-reads}
 use Rattle.law.specs.Calls.{landed, without}
 use Rattle.law.specs.AttributeLaws.{note-same}
 use Rattle.law.specs.MaskLaws.{sum-two, sum-one, sum-none, dist-read}
@@ -151,7 +152,7 @@ module _ (t : Table) where
               sum-two m (λ a. shareOf t a (s .figures) (s .active)) (λ a. gapOn (s .figures) a (kindOf t c) (c .value)),
               subst (λ (k : Kind). sumRead m (λ a. gapOn (s .figures) a k (c .value)) ≡ 0) (sym p) (sum-none m),
               ap (λ (k : Kind). amountBy k (total t s c)) p,
-              ap (λ (k : Kind). startBy (s .figures) k (c .error)) p,
+              start-reads t s c m p,
               subst
                   (λ (k : Kind).
                   sumRead m (λ a. shareOf t a (s .figures) (s .active)) ≤ sumOf (λ w. costBy (entryBy (kindOf t w) k) k (dist (c .value) (w .value)) (gap t s w)) (s .active))

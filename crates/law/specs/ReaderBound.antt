@@ -9,7 +9,7 @@ use Rattle.law.specs.declared.Claim.{Claim}
 use Rattle.law.specs.Lists.{All, Pairs, all-say, all-true}
 use Rattle.law.specs.Types.{reads, Table, Core, Disk, Asked, Item}
 use Rattle.law.specs.Granting.{grant, grantItem}
-use Rattle.law.specs.Calls.{opened, item, claim, release, asked, at, letGo, finish, without, landed}
+use Rattle.law.specs.Calls.{opened, item, waitItem, claim, release, asked, at, letGo, finish, without, landed}
 use Rattle.law.specs.History.{Call, claims, releases, History, begun, answered, lived}
 use Rattle.law.specs.Events.{After, claim-after, release-after, pass-keeps, lived-keeps}
 use Rattle.law.specs.Held.{held-bound}
@@ -49,7 +49,7 @@ module _ (t : Table) where
       claim-after t (λ e items. KeptIn e (past ++ items)) d q
       (λ ok g. kept-grant t (at d (q .now)) (d .waiting) (asked d q) [] (d .waiting) g (kept-new t [] (d .waiting) (asked d q) refl h))
       (λ ok g.
-      kept-note t (item 1 (d .next)) (λ e. omega arith)
+      kept-note t (waitItem t d q) (λ e. omega arith)
       (queue-cases
       (λ ws vs.
       Kept t (d .core .figures) (d .core .active) ws (d .next) past →

@@ -153,7 +153,7 @@ goes h ((k ⇒ e) ∷ steps) = meets e (answered diskTable (h .disk) k) && goes 
 goes h (bears n told amount ∷ steps) = bearing h n told amount && goes h steps
 goes h (carries n error ∷ steps) = carrying h n error && goes h steps
 
--- The diskTable is opened, with code 3, and each step goes as expected.
+-- The disk is opened, with code 3, and each step goes as expected.
 unfoldable pub holds : Situation → Bool
 unfolding opened openDisk claim release finish turn passOver preconditions total lockStep bars granted grant grantItem diskTable dist hasBit
 holds (opening now l0 l1 steps) = answers (only 3 0 ∷ []) (openDisk now l0 l1) && goes (begun now l0 l1) steps

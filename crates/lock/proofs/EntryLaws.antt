@@ -33,25 +33,16 @@ each-kind P p0 p1 p2 p3 p4 p5 p6 p7 (suc (suc (suc (suc (suc (suc (suc m))))))) 
 pub add-is : (m : ℕ) → isAdd (kindAt diskTable m) ≡ addsTo a1 (kindAt diskTable m)
 add-is m = each-kind (λ k. isAdd k ≡ addsTo a1 k) refl refl refl refl refl refl refl refl m
 
-row-past : (k : Kind) → A ≡ entryBy (reads 0) k
+-- A method that there is not goes with all, as the row and as the column.
+past : (k : Kind) → (A ≡ entryBy (reads 0) k) × (A ≡ entryBy k (reads 0))
 unfolding hasBit
-row-past (sets a0) = refl
-row-past (sets a1) = refl
-row-past (sets a2) = refl
-row-past (adds a0) = refl
-row-past (adds a1) = refl
-row-past (adds a2) = refl
-row-past (reads m) = refl
-
-col-past : (k : Kind) → A ≡ entryBy k (reads 0)
-unfolding hasBit
-col-past (sets a0) = refl
-col-past (sets a1) = refl
-col-past (sets a2) = refl
-col-past (adds a0) = refl
-col-past (adds a1) = refl
-col-past (adds a2) = refl
-col-past (reads m) = refl
+past (sets a0) = (refl, refl)
+past (sets a1) = (refl, refl)
+past (sets a2) = (refl, refl)
+past (adds a0) = (refl, refl)
+past (adds a1) = (refl, refl)
+past (adds a2) = (refl, refl)
+past (reads m) = (refl, refl)
 
 -- The index of a method that there is.
 pub index-is : (m : ℕ) → m < 7 → indexOf m ≡ m
@@ -70,10 +61,10 @@ pub entry-of : (m n : ℕ) → m < 7 → n < 7 → entryAt (indexOf m) (indexOf 
 entry-of m n h g = rw (index-is m h, index-is n g) (disk-entry m n h g)
 
 pub entry-row-past : (m n : ℕ) → 7 ≤ m → A ≡ entryBy (kindAt diskTable m) (kindAt diskTable n)
-entry-row-past m n h = row-past (kindAt diskTable n) ∙ ap (λ k. entryBy k (kindAt diskTable n)) (sym (method-past m h))
+entry-row-past m n h = past (kindAt diskTable n) .0 ∙ ap (λ k. entryBy k (kindAt diskTable n)) (sym (method-past m h))
 
 pub entry-col-past : (m n : ℕ) → 7 ≤ n → A ≡ entryBy (kindAt diskTable m) (kindAt diskTable n)
-entry-col-past m n h = col-past (kindAt diskTable m) ∙ ap (entryBy (kindAt diskTable m)) (sym (method-past n h))
+entry-col-past m n h = past (kindAt diskTable m) .1 ∙ ap (entryBy (kindAt diskTable m)) (sym (method-past n h))
 
 -- The last test of a list of tests.
 pub last-test : (b : Bool) → b ≡ (b && true)

@@ -72,9 +72,9 @@ in-time : (x now : ℕ) (read : Bool) → cond read (ltb now x) true ≡ not (re
 in-time x now true = later x now (leb x now) refl
 in-time x now false = refl
 
--- An attribute of a mask is stale.
-abbrev pub staleIn : Figures → ℕ → ℕ → Attribute → Bool
-staleIn f now mask a = hasBit mask (bitOf a) && leb (attr f a .stamp + diskValid 0 a) now
+-- An attribute of a mask is stale under a flag.
+abbrev pub staleIn : Figures → ℕ → ℕ → ℕ → Attribute → Bool
+staleIn f now flag mask a = hasBit mask (bitOf a) && leb (attr f a .stamp + diskValid flag a) now
 
 module _ (f : Figures) (now : ℕ) where
   pub fresh-unasked : (k : Kind) (flag : ℕ) → flag ≡ 0 → freshAt f now k flag ≡ true
@@ -85,9 +85,9 @@ module _ (f : Figures) (now : ℕ) where
 
   pub fresh-asked : (k : Kind) (flag : ℕ) → (flag ≡ 0 → ⊥) →
       freshAt f now k flag ≡ allTrue
-      (not (staleIn f now (readsBy k) a0)
-      ∷ not (staleIn f now (readsBy k) a1)
-      ∷ not (staleIn f now (readsBy k) a2)
+      (not (staleIn f now flag (readsBy k) a0)
+      ∷ not (staleIn f now flag (readsBy k) a1)
+      ∷ not (staleIn f now flag (readsBy k) a2)
       ∷ [])
   unfolding freshAt diskTable hasBit
   fresh-asked (sets a) flag e = refl

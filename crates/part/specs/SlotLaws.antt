@@ -338,3 +338,7 @@ slot-at (suc n) s zero h = refl
 slot-at (suc n) s (suc i) h =
     let e : 44 + 44 * i ≡ 44 * suc i = omega arith in
     slot-at n (drop 44 s) i (omega arith) ∙ ap (λ (r : List ℕ). claimIn (take 44 r)) (drop-drop (44 * i) 44 s ∙ ap (λ (k : ℕ). drop k s) e)
+
+-- The same behind so many bytes.
+pub slot-behind : (at : ℕ) (s : List ℕ) (i : ℕ) → i < 8 → getD (slots 8 (drop at s)) i noClaim ≡ claimIn (take 44 (drop (at + 44 * i) s))
+slot-behind at s i h = slot-at 8 (drop at s) i h ∙ ap (λ (r : List ℕ). claimIn (take 44 r)) (drop-drop (44 * i) at s)

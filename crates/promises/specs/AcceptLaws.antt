@@ -13,7 +13,7 @@ use Rattle.law.specs.declared.Claim.{Claim}
 use Rattle.law.specs.Lists.{All}
 use Rattle.law.specs.Types.{places, Core, Disk as LawDisk, Asked, Outcome, refused, accepted}
 use Rattle.law.specs.Granting.{preconditions, lockStep, bars, granted, grantItem}
-use Rattle.law.specs.Calls.{Rule, unless, item, opened as openedDisk, openRefusals, openDisk, at, asked, grantedAtOnce, refusals, withGrant, withWait, decided, claim, releaseRefusals, withEnd, letGo, release}
+use Rattle.law.specs.Calls.{Rule, unless, item, opened as openedDisk, openRefusals, openDisk, at, asked, grantedAtOnce, refusals, decidedBy, decided, claim, releaseRefusals, withEnd, letGo, release}
 use Rattle.law.specs.History.{claims, releases, answered}
 use Rattle.law.specs.DiskType.{diskTable}
 use Rattle.law.specs.Says.{Says, fails, says-lt, says-self, says-fails, says-none, none, _⊳_ as _then_, says-row, _and_}
@@ -110,11 +110,7 @@ unfolding claim answerOf grantItem
 claim-code d q h = unless-code (refusals diskTable d q) (decided diskTable d q) h ∙ go (grantedAtOnce diskTable d q)
   where
     go : (w : Bool) →
-        outcomeCode
-        (cond w
-        (accepted (withGrant diskTable d q) (grantItem diskTable (at d (q .now)) (asked d q) ∷ []))
-        (accepted (withWait diskTable d q) (item 1 (d .next) ∷ [])))
-        ≡ claimCode w
+        outcomeCode (decidedBy diskTable w d q) ≡ claimCode w
     go true = refl
     go false = refl
 

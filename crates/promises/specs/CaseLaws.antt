@@ -24,11 +24,12 @@ use Rattle.law.specs.DiskType.{diskTable}
 use Rattle.answer.specs.declared.Refusal.{Refusal}
 use Rattle.answer.specs.declared.Refusal.the-variants as R
 use Rattle.answer.specs.Answers.{refusalOf}
-use Rattle.desk.specs.Record.{byteAt, wellFormed, kindFits, kindOf, diskOf, nowOf, askedOf, callOf, usedLimit, promisedLimit}
+use Rattle.desk.specs.Record.{wellFormed, kindOf, diskOf, nowOf, askedOf, callOf, usedLimit, promisedLimit}
 use Rattle.desk.specs.Board.{disks, boardBytes, partOf, withPart}
 use Rattle.desk.specs.BoardLaws.{with-same}
 use Rattle.part.specs.Held.{held, partFor, soundPart}
 use Rattle.part.specs.PartLaws.{sound-held, length-part-for}
+use Rattle.promises.specs.RefusalLaws.{says-formed}
 use Rattle.desk.specs.Step.{tells, telling, refusing, settled, serveOf, onPart, opening, onDisk, onBoard, tellOf}
 
 -- ---- the cases
@@ -117,27 +118,12 @@ module _ (b r : List ℕ) (whole : length b ≡ boardBytes) where
 
 -- ---- a well-formed record holds a readable call
 
-flag-fits : (r : List ℕ) → wellFormed r ≡ true → byteAt r 6 ≤ 1
-unfolding wellFormed
-flag-fits r w =
-    let p =
-    passed
-    (eqb (length r) 24
-    ∷ eqb (byteAt r 0) 0x52
-    ∷ eqb (byteAt r 1) 0x42
-    ∷ eqb (byteAt r 7) 0
-    ∷ leb (byteAt r 6) 1
-    ∷ kindFits r (kindOf r)
-    ∷ [])
-    w in
-    leb-true (byteAt r 6) 1 (p .1 .1 .1 .1 .0)
-
 pub call-readable : (r : List ℕ) → Bytes r → wellFormed r ≡ true → ReadableCall (callOf r)
 unfolding askedOf
 call-readable r bs w = go (eqb (kindOf r) 2)
   where
     go : (v : Bool) → ReadableCall (cond v (claims (askedOf r)) (releases (nowOf r) (wordAt r 12)))
-    go true = record { priority = omega (arith, bs 5); flag = flag-fits r w }
+    go true = record { priority = omega (arith, bs 5); flag = says-formed r .0 w .flag }
     go false = tt
 
 -- ---- an accepted call sets the clock to now

@@ -14,7 +14,7 @@ use Rattle.num.specs.Opened.{openAt}
 use Rattle.num.specs.Signed.{wordOf}
 use Rattle.num.specs.Runs.{le4, flat, allZero}
 use Rattle.law.specs.Base.{allTrue}
-use Rattle.law.specs.Types.{Disk, Item, Outcome, refused, accepted}
+use Rattle.law.specs.Types.{mostFlag, Disk, Item, Outcome, refused, accepted}
 use Rattle.law.specs.Lists.{and-left, and-right}
 use Rattle.law.specs.Calls.{Rule, openDisk}
 use Rattle.law.specs.History.{Call, claims, releases, answered}
@@ -95,7 +95,7 @@ says-formed r =
     then says-eq (byteAt r 0) 0x52
     then says-eq (byteAt r 1) 0x42
     then says-eq (byteAt r 7) 0
-    then says-le (byteAt r 6) 1
+    then says-le (byteAt r 6) mostFlag
     then says-kind r
     then none) in (
       λ e.

@@ -8,7 +8,7 @@ use Rattle.law.specs.declared.Claim.{Claim}
 use Rattle.law.specs.Lists.{All, all-say, all-true, all-grown}
 use Rattle.law.specs.Types.{Core, Item}
 use Rattle.law.specs.Granting.{grant, grantItem, raised, asGranted}
-use Rattle.law.specs.Calls.{item, hasTicket, without, opened, asked, at, finish}
+use Rattle.law.specs.Calls.{item, waitItem, hasTicket, without, opened, asked, at, finish}
 use Rattle.law.specs.Events.{After, claim-after, release-after, pass-keeps, lived-keeps}
 use Rattle.law.specs.History.{Call, claims, releases, History, begun, answered, lived}
 use Rattle.law.specs.DiskType.{diskTable}
@@ -48,7 +48,7 @@ unfolding finish
 call-granted h (claims q) g =
     claim-after diskTable (λ d items. All (WasGranted (h .past ++ items)) (d .core .active)) (h .disk) q
     (λ ok e. grant-granted (h .past) (at (h .disk) (q .now)) (asked (h .disk) q) g)
-    (λ ok e. more-granted (h .past) (item 1 (h .disk .next) ∷ []) (h .disk .core .active) g)
+    (λ ok e. more-granted (h .past) (waitItem diskTable (h .disk) q ∷ []) (h .disk .core .active) g)
 call-granted h (releases now n) g =
     release-after diskTable (λ d items. All (WasGranted (h .past ++ items)) (d .core .active)) (h .disk) now n
     (λ ok.

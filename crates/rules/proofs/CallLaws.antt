@@ -16,7 +16,7 @@ use Rattle.law.specs.Lists.{All, never-true}
 use Rattle.law.specs.Types.{mostValue, mostError, mostState, places, lastTicket, Kind, sets, adds, reads, Figures, Disk as LawDisk, Asked as LawAsked, Outcome, refused, accepted}
 use Rattle.law.specs.Entries.{kindAt, kindOf}
 use Rattle.law.specs.Granting.{total, grantItem}
-use Rattle.law.specs.Calls.{Rule, unless, fieldTests, ownFits, item, opened, openDisk, asked, at, grantedAtOnce, decided, claim}
+use Rattle.law.specs.Calls.{Rule, unless, fieldTests, ownFits, item, opened, openDisk, asked, at, grantedAtOnce, waitItem, decided, claim}
 use Rattle.law.specs.Events.{NoneHolds}
 use Rattle.law.specs.Sound.{Passes, Sound}
 use Rattle.law.specs.SoundTest.{unrefused}
@@ -208,7 +208,7 @@ module _ (d : LawDisk) (q : LawAsked) where
     claim-full g h = claim-rest ∙ rw (g, le-leb places (length (d .waiting)) h)
 
     pub claim-waits : grantedAtOnce diskTable d q ≡ false → length (d .waiting) < places →
-        claim diskTable d q ≡ accepted (waitingOf d (q .now) (asked d q)) (item 1 (d .next) ∷ [])
+        claim diskTable d q ≡ accepted (waitingOf d (q .now) (asked d q)) (waitItem diskTable d q ∷ [])
     unfolding full waitingOf
     claim-waits g h = claim-rest ∙ rw (g, lt-leb places (length (d .waiting)) h)
 
@@ -249,7 +249,7 @@ module _ (d : LawDisk) (q : LawAsked) (z : shownBy (claim diskTable d q) .refusa
           let o : claim diskTable d q ≡ refused 20 = claim-full d q shown-passed g (leb-true places (length (d .waiting)) e) in
           absurd (omega (arith, z, ap (λ (o : Outcome). shownBy o .refusal) o))
       go false g false e =
-          let o : claim diskTable d q ≡ accepted (waitingOf d (q .now) (asked d q)) (item 1 (d .next) ∷ []) =
+          let o : claim diskTable d q ≡ accepted (waitingOf d (q .now) (asked d q)) (waitItem diskTable d q ∷ []) =
           claim-waits d q shown-passed g (leb-false places (length (d .waiting)) e) in
           absurd (omega (arith, y, ap (λ (o : Outcome). shownBy o .own .code) o))
 

@@ -15,7 +15,7 @@ use Rattle.law.specs.declared.Claim.{Claim}
 use Rattle.law.specs.Types.{claimOf, Asked as LawAsked, Outcome, refused, accepted}
 use Rattle.law.specs.Entries.{kindOf}
 use Rattle.law.specs.Granting.{tellBy, grantItem}
-use Rattle.law.specs.Calls.{asked, at, item, claim}
+use Rattle.law.specs.Calls.{asked, at, waitItem, claim}
 use Rattle.law.specs.DiskType.{diskTable}
 use Rattle.rules.specs.declared.disk.Disk.{Disk}
 use Rattle.rules.specs.declared.disk.Item.{Item}
@@ -190,7 +190,7 @@ returns-3 c =
     let q = askedOf (s .args .q) in
     let y : (shownBy (law (u .before .before .before)) .own .code ≡ 0 → ⊥) = λ e. t .if2 .left (code (t .before) ∙ e) in
     let o = claim-waits l q (shown-passed l q (accepts u)) (shown-later l q (accepts u) y) (shown-place l q (accepts u) y) in
-    step-accepted _ (waitingOf l (q .now) (asked l q)) (item 1 (l .next)) [] o refl
+    step-accepted _ (waitingOf l (q .now) (asked l q)) (waitItem diskTable l q) [] o refl
     (c .before .before .wait .ensures ∙ ap (λ (x : Claim). partFor (waitingOf l (q .now) x)) (claim-is (c .before .before .before .before .before .before .before .before .before .before)))
     (c .before .before .before .before .before .before .put-answer2 .ensures
     ∙ ap (λ (x : ℕ). answerBytes (A.Waits x) []) (ap (λ (j : Judgement). j .own .ticket) (u .before .before .before .judged .ensures ∙ ap shownBy o)))

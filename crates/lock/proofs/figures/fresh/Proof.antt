@@ -1,10 +1,10 @@
 -- A reading with the flag is fresh where none of the attributes that it reads is stale.
-use mathlib.Core.Bool.{not, and-true}
+use mathlib.Core.Bool.{Bool, not, and-true}
 use mathlib.Core.List.{[], _∷_}
 use mathlib.Core.Path.{_≡_, sym}
 use borrow.Author.Needs.{needs}
 use Rattle.law.specs.Base.{allTrue}
-use Rattle.law.specs.Types.{a0, a1, a2}
+use Rattle.law.specs.Types.{Attribute, a0, a1, a2, Figures}
 use Rattle.law.specs.Entries.{kindAt}
 use Rattle.law.specs.DiskType.{diskTable}
 use Rattle.lock.specs.Methods.{readMask, figuresOf, freshAt}
@@ -12,36 +12,34 @@ use Rattle.lock.proofs.RuleLaws.{staleIn, fresh-unasked, fresh-asked}
 use Rattle.lock.proofs.figures.fresh.Statement.{statement}
 use Rattle.lock.proofs.figures.fresh.Tie as tie
 
--- The answer is that of three tests, and each is a call's.
-tests : (c : tie.After-reads) →
-    let a = c .before .before .args in
-    let f = figuresOf (a .used) (a .promised) (a .state) in
-    freshAt f (a .now) (kindAt diskTable (a .m)) (a .flag) ≡ allTrue
-    (not (staleIn f (a .now) (readMask (a .m)) a0)
-    ∷ not (staleIn f (a .now) (readMask (a .m)) a1)
-    ∷ not (staleIn f (a .now) (readMask (a .m)) a2)
-    ∷ [])
-unfolding readMask
-tests c =
-    let a = c .before .before .args in
-    let f = figuresOf (a .used) (a .promised) (a .state) in
-    fresh-asked f (a .now) (kindAt diskTable (a .m)) (a .flag) (c .before .if1 .left)
+-- What is asked, from where the mask has been read.
+abbrev start : tie.After-reads → tie.Start
+start r = r .before .before
 
-stale-0 : (c : tie.After-stale) →
-    let a = c .before .before .before .before .args in
-    staleIn (figuresOf (a .used) (a .promised) (a .state)) (a .now) (readMask (a .m)) a0 ≡ c .stale .result
+abbrev figures : tie.After-reads → Figures
+figures r = let a = start r .args in figuresOf (a .used) (a .promised) (a .state)
+
+abbrev stale-of : tie.After-reads → Attribute → Bool
+stale-of r a = staleIn (figures r) (start r .args .now) (start r .args .flag) (readMask (start r .args .m)) a
+
+-- The answer is that of three tests, and each is a call's.
+tests : (r : tie.After-reads) →
+    freshAt (figures r) (start r .args .now) (kindAt diskTable (start r .args .m)) (start r .args .flag)
+    ≡ allTrue (not (stale-of r a0) ∷ not (stale-of r a1) ∷ not (stale-of r a2) ∷ [])
+unfolding readMask
+tests r =
+    let a = start r .args in
+    fresh-asked (figures r) (a .now) (kindAt diskTable (a .m)) (a .flag) (r .before .if1 .left)
+
+stale-0 : (c : tie.After-stale) → stale-of (c .before .before) a0 ≡ c .stale .result
 stale-0 c = sym (rw (c .before .bit .ensures, c .before .before .reads .ensures) at (c .stale .ensures))
 
-stale-1 : (c : tie.After-stale2) →
-    let a = c .before .before .before .before .before .before .before .args in
-    staleIn (figuresOf (a .used) (a .promised) (a .state)) (a .now) (readMask (a .m)) a1 ≡ c .stale2 .result
+stale-1 : (c : tie.After-stale2) → stale-of (c .before .before .before .before .before) a1 ≡ c .stale2 .result
 stale-1 c =
     let r = c .before .before .before .before .before in
     sym (rw (c .before .bit2 .ensures, r .reads .ensures) at (c .stale2 .ensures))
 
-stale-2 : (c : tie.After-stale3) →
-    let a = c .before .before .before .before .before .before .before .before .before .before .args in
-    staleIn (figuresOf (a .used) (a .promised) (a .state)) (a .now) (readMask (a .m)) a2 ≡ c .stale3 .result
+stale-2 : (c : tie.After-stale3) → stale-of (c .before .before .before .before .before .before .before .before) a2 ≡ c .stale3 .result
 stale-2 c =
     let r = c .before .before .before .before .before .before .before .before in
     sym (rw (c .before .bit3 .ensures, r .reads .ensures) at (c .stale3 .ensures))
