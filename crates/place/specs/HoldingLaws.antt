@@ -97,6 +97,22 @@ module _ {s : List ℕ} {d : Disk} (h : Holds s d) where
     row-fits : ClaimsFit (slots 8 row)
     row-fits = record { room = length-slots 8 row; each = slots-fit 8 row (rw kept at (bytes-slots (slots 8 row))) }
 
+    -- The disk with other claims in its places fits where they do.
+    with-rows : {cs ws : List Claim} → ClaimsFit cs → ClaimsFit ws → DiskFits (withWaiting (withActive d cs) (d .waitings) ws)
+    with-rows cs ws =
+        let f = h .fits in
+        record {
+          clock = f .clock;
+          next = f .next;
+          actives = f .actives;
+          waitings = f .waitings;
+          used = f .used;
+          promised = f .promised;
+          state = f .state;
+          active = cs;
+          waiting = ws;
+        }
+
     pub put-active-run : Holds (splice s 64 row) (withActive d (slots 8 row))
     unfolding encode headWords
     put-active-run =
@@ -105,23 +121,8 @@ module _ {s : List ℕ} {d : Disk} (h : Holds s d) where
               ap (λ (r : List ℕ). splice s 64 r) (sym kept)
               ∙ ap (λ (r : List ℕ). splice r 64 (inSlots (slots 8 row))) (h .is)
               ∙ put-active (headWords d) (d .active) (d .waiting) (slots 8 row) (head-size d) (h .fits .active .room ∙ sym (length-slots 8 row));
-          fits = with-active row-fits;
+          fits = with-rows row-fits (h .fits .waiting);
         }
-      where
-        with-active : ClaimsFit (slots 8 row) → DiskFits (withActive d (slots 8 row))
-        with-active c =
-            let f = h .fits in
-            record {
-              clock = f .clock;
-              next = f .next;
-              actives = f .actives;
-              waitings = f .waitings;
-              used = f .used;
-              promised = f .promised;
-              state = f .state;
-              active = c;
-              waiting = f .waiting;
-            }
 
     pub put-waiting-run : Holds (splice s 416 row) (withWaiting d (d .waitings) (slots 8 row))
     unfolding encode headWords
@@ -131,23 +132,8 @@ module _ {s : List ℕ} {d : Disk} (h : Holds s d) where
               ap (λ (r : List ℕ). splice s 416 r) (sym kept)
               ∙ ap (λ (r : List ℕ). splice r 416 (inSlots (slots 8 row))) (h .is)
               ∙ put-waiting (headWords d) (d .active) (d .waiting) (slots 8 row) (head-size d) (h .fits .active .room) (h .fits .waiting .room ∙ sym (length-slots 8 row));
-          fits = with-waiting row-fits;
+          fits = with-rows (h .fits .active) row-fits;
         }
-      where
-        with-waiting : ClaimsFit (slots 8 row) → DiskFits (withWaiting d (d .waitings) (slots 8 row))
-        with-waiting c =
-            let f = h .fits in
-            record {
-              clock = f .clock;
-              next = f .next;
-              actives = f .actives;
-              waitings = f .waitings;
-              used = f .used;
-              promised = f .promised;
-              state = f .state;
-              active = f .active;
-              waiting = c;
-            }
 
   -- ---- a word of its head
 
