@@ -1,9 +1,9 @@
 -- Masks of methods, one bit for each: those of a list of claims, and those that an entry keeps from a method.
-use Prim.Native.Nat.{ℕ, zero, suc, _^_}
+use Prim.Native.Nat.{ℕ, zero, suc, _-_, _^_}
 use mathlib.Core.Bool.{Bool, cond, not}
 use mathlib.Core.List.{List, [], _∷_}
-use lib.Bits.{bitOr}
-use lib.Dec.{ltb}
+use lib.Bits.{bitAnd, bitOr}
+use lib.Dec.{ltb, eqb}
 use Rattle.law.specs.declared.Claim.{Claim}
 use Rattle.law.specs.declared.Entry.{Entry}
 use Rattle.law.specs.Types.{Kind}
@@ -22,6 +22,24 @@ methodsFrom mask (c ∷ cs) = methodsFrom (bitOr mask (methodBit (c .method))) c
 -- The methods of claims.
 abbrev pub methodsOf : List Claim → ℕ
 methodsOf cs = methodsFrom 0 cs
+
+-- The methods that claims meet in a mask of methods, in which each sets its own.
+unfoldable pub twiceFrom : ℕ → ℕ → List Claim → ℕ
+twiceFrom twice mask [] = twice
+twiceFrom twice mask (c ∷ cs) =
+    twiceFrom (bitOr twice (bitAnd mask (methodBit (c .method)))) (bitOr mask (methodBit (c .method))) cs
+
+-- The methods that more than one of the claims has.
+abbrev pub twiceOf : List Claim → ℕ
+twiceOf cs = twiceFrom 0 0 cs
+
+-- Two masks share a bit.
+abbrev pub shares : ℕ → ℕ → Bool
+shares a b = not (eqb (bitAnd a b) 0)
+
+-- The methods that are left where one claim of method m goes: m stays only where it is there twice.
+unfoldable pub withoutOf : ℕ → ℕ → ℕ → ℕ
+withoutOf methods twice m = cond (shares twice (methodBit m)) methods (methods - methodBit m)
 
 -- The first n methods whose entry, as the active one, with a requested one of a kind passes a test.
 unfoldable pub rowsTo : (Entry → Bool) → Kind → ℕ → ℕ

@@ -3,15 +3,14 @@ use Prim.Native.Nat.{ℕ, _%_, _^_}
 use mathlib.Core.Bool.{Bool, true, not, _&&_, _||_}
 use mathlib.Core.List.{List, [], _∷_}
 use mathlib.Core.Path.{_≡_}
-use lib.Bits.{bitAnd, bitOr}
-use lib.Dec.{eqb}
+use lib.Bits.{bitOr}
 use Rattle.num.specs.Bits.{hasBit}
 use Rattle.law.specs.declared.Claim.{Claim}
 use Rattle.law.specs.Base.{sumOf}
 use Rattle.law.specs.Types.{Disk as LawDisk}
 use Rattle.law.specs.Sound.{claimsOn}
 use Rattle.lock.specs.Pairs.{addOf}
-use Rattle.lock.specs.Masks.{methodBit, methodsOf}
+use Rattle.lock.specs.Masks.{methodsOf, shares}
 
 -- ---- tickets
 
@@ -25,20 +24,6 @@ free mask [] = true
 free mask (c ∷ cs) = not (hasBit mask (bitOf c)) && free (bitOr mask (2 ^ bitOf c)) cs
 
 -- ---- methods
-
--- The methods that claims meet in a mask of methods, in which each sets its own.
-unfoldable pub twiceFrom : ℕ → ℕ → List Claim → ℕ
-twiceFrom twice mask [] = twice
-twiceFrom twice mask (c ∷ cs) =
-    twiceFrom (bitOr twice (bitAnd mask (methodBit (c .method)))) (bitOr mask (methodBit (c .method))) cs
-
--- The methods that more than one of the claims has.
-abbrev pub twiceOf : List Claim → ℕ
-twiceOf cs = twiceFrom 0 0 cs
-
--- Two masks share a bit.
-abbrev pub shares : ℕ → ℕ → Bool
-shares a b = not (eqb (bitAnd a b) 0)
 
 -- Among claims with these methods, and these twice, there may be two with entry N: an AddPromised (bit 1) beside a SetPromised
 -- (bit 2), or a SetState (bit 3) beside a ReadState (bit 6) or beside another.

@@ -18,13 +18,13 @@ use Rattle.law.specs.Lists.{never-true}
 use Rattle.law.specs.Types.{mostValue}
 use Rattle.claims.specs.Rows.{Row, noClaim}
 use Rattle.claims.specs.RowLaws.{left-on, left-end, sum-turn, sum-end, every-on, every-not, every-end}
-use Rattle.lock.specs.Masks.{methodsFrom, methodsOf}
+use Rattle.lock.specs.Masks.{methodsFrom, methodsOf, twiceFrom, twiceOf}
 use Rattle.lock.specs.Methods.{figuresOf}
 use Rattle.lock.specs.Pairs.{addOf}
 use Rattle.rules.specs.Disks.{figuresIn, diskOf}
 use Rattle.part.specs.Layout.{decode, decodes}
 use Rattle.sound.specs.Tests.{activeFits, eachActive, sumTest, activesFront, activesTests}
-use Rattle.sound.specs.Seen.{free, twiceFrom, twiceOf, Onward}
+use Rattle.sound.specs.Seen.{free, Onward}
 use Rattle.sound.proofs.TestLaws.{test-fails, test-last}
 use Rattle.sound.proofs.WalkLaws.{there}
 use Rattle.sound.proofs.TicketLaws.{none-before, free-on}

@@ -1,10 +1,10 @@
 -- Where the masks say that no two can have entry N, none have; where they do not, each two are looked up.
 use mathlib.Core.Path.{_≡_, sym, _∙_}
 use borrow.Author.Needs.{needs}
-use Rattle.lock.specs.Masks.{methodsOf}
+use Rattle.lock.specs.Masks.{methodsOf, twiceOf}
 use Rattle.rules.specs.Disks.{diskOf}
 use Rattle.part.specs.Layout.{decode}
-use Rattle.sound.specs.Seen.{twiceOf, mayClash}
+use Rattle.sound.specs.Seen.{mayClash}
 use Rattle.sound.proofs.MeetLaws.{apart-meet}
 use Rattle.sound.proofs.SoundLaws.{methods-there}
 use Rattle.sound.proofs.active.none_clash.Statement.{statement}
