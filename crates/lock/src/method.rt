@@ -2,17 +2,18 @@
 // the compatibility table.
 
 ghost use mathlib.Core.Path.{_≡_};
-ghost use Prim.Native.Nat.{_<_};
+ghost use Prim.Native.Nat.{_≤_, _<_};
 ghost use Rattle.law.specs.Entries.{kindAt};
 ghost use Rattle.law.specs.DiskType.{diskTable};
 ghost use Rattle.lock.specs.Methods.{readMask, writeMask, isReading, isAdd};
-ghost use Rattle.lock.specs.Masks.{methodBit, otherMask, neverMask};
+ghost use Rattle.lock.specs.Masks.{methodBit, withoutOf, otherMask, neverMask};
 use law::Entry;
 use law::Entry::A;
 use law::Entry::D;
 use law::Entry::G;
 use law::Entry::N;
 use num::bits::bit_of;
+use num::bits::share;
 
 // 0 ReportUsed, 1 AddPromised, 2 SetPromised, 3 SetState, 4 ReadUsed, 5 ReadLoad, 6 ReadState.
 pub const METHODS: u32 = 7;
@@ -95,6 +96,18 @@ pub fn own_bit(m: u32) -> u64
     ensures { λ r. ⌜ r ≡ methodBit m ⌝ }
 {
     if m < METHODS { bit_of(m) } else { 0 }
+}
+
+// The methods that are left where one claim of method m goes: m stays only where it is there twice.
+pub fn without(methods: u64, twice: u64, m: u32) -> u64
+    requires { ⌜ methodBit m ≤ methods ⌝ }
+    ensures { λ r. ⌜ r ≡ withoutOf methods twice m ⌝ }
+{
+    let own = own_bit(m);
+    if share(twice, own) {
+        return methods;
+    }
+    methods - own
 }
 
 // The methods whose entry with m is not A: where none of them is active, no active claim has a say.
