@@ -84,11 +84,11 @@ never-bit r m h = rows-bit isNever (kindAt diskTable m) 7 r h
 -- ---- the methods of claims
 
 module _ (m : ℕ) (h : m < 7) where
-  bit-is : methodBit m ≡ 2 ^ m
+  pub bit-is : methodBit m ≡ 2 ^ m
   unfolding methodBit
   bit-is = rw (lt-ltb m 7 h)
 
-  here : (mask : ℕ) → hasBit (bitOr mask (methodBit m)) m ≡ true
+  pub here : (mask : ℕ) → hasBit (bitOr mask (methodBit m)) m ≡ true
   here mask = ap (λ (x : ℕ). hasBit (bitOr mask x) m) bit-is ∙ bit-set mask m
 
 bit-none : (m : ℕ) → 7 ≤ m → methodBit m ≡ 0
