@@ -1,26 +1,27 @@
 -- Laws of a claim by itself: where the limits of the figures are in range, what the code compares with the most that a claim's
 -- kind may have are the law's tests of it.
-use Prim.Native.Nat.{ℕ, _≤_}
-use mathlib.Core.Bool.{Bool, true, false, cond, not, _&&_, and-true, and-false}
+use Prim.Native.Nat.{ℕ, _^_, _≤_, _<_}
+use mathlib.Core.Bool.{Bool, true, false, cond, _&&_, and-true}
 use mathlib.Core.List.{List, [], _∷_, _++_}
 use mathlib.Core.Path.{_≡_, refl, sym, ap, _∙_}
 use native.Mathlib.Omega.{arith}
-use borrow.Author.Tests.{leb-true, le-leb, le-ltb, eqb-true, eq-eqb, ne-eqb}
+use borrow.Author.Tests.{leb-true, le-leb, lt-leb, le-ltb, eqb-true, eq-eqb, ne-eqb}
 use lib.Dec.{leb, ltb, eqb}
 use lib.IntN.{ℤ, pos, negsuc}
-use lib.Signed.{ltZ}
+use lib.Signed.{mag}
 use Rattle.num.specs.Metric.{size}
+use Rattle.num.specs.Signed.{wordOf}
 use Rattle.law.specs.declared.Claim.{Claim}
 use Rattle.law.specs.Base.{allTrue}
 use Rattle.law.specs.Lists.{passed, all-passed}
 use Rattle.law.specs.Says.{_and_}
 use Rattle.law.specs.Types.{mostValue, mostError, mostState, mostPriority, mostFlag, a0, a1, a2, Kind, sets, adds, reads, Figures}
 use Rattle.law.specs.Entries.{kindAt, kindOf}
-use Rattle.law.specs.Calls.{valueFits, fieldTests, ownFits}
+use Rattle.law.specs.Calls.{isCode, fieldTests, ownFits}
 use Rattle.law.specs.Sound.{bare, bareBy, readingBy}
 use Rattle.law.specs.DiskType.{diskTable}
 use Rattle.lock.proofs.MethodLaws.{method-past, method-cases}
-use Rattle.sound.specs.Tests.{figureTests, figureFits, figuresTests, figuresFit, claimTests, claimFits, toldTests, toldFits, activeFits, waitingFits, ifReading, mostValueBy, isStateSet, limitBy, aloneTests, aloneFits}
+use Rattle.sound.specs.Tests.{figureTests, figureFits, figuresTests, figuresFit, claimTests, claimFits, toldTests, toldFits, activeFits, waitingFits, ifReading, mostValueBy, isStateSet, valueSizeBy, valueIn, limitBy, aloneTests, aloneFits}
 use Rattle.sound.proofs.WalkLaws.{same-test}
 
 -- ---- the numbers that the code chooses by the method
@@ -52,10 +53,19 @@ state-set =
 none : (n : ℕ) → leb n 0 ≡ eqb n 0
 none n = same-test (leb n 0) (eqb n 0) (λ e. eq-eqb n 0 (omega (arith, leb-true n 0 e))) (λ e. le-leb n 0 (omega (arith, eqb-true n 0 e)))
 
--- A code: its size is in range and it is not below 0.
-code-is : (z : ℤ) → allTrue (leb (size z) mostState ∷ not (ltZ z (pos 0)) ∷ []) ≡ valueFits a2 z
-code-is (pos n) = rw (le-ltb n 0 (omega arith)) (and-true (leb n mostState))
-code-is (negsuc n) = and-false (leb (size (negsuc n)) mostState)
+-- A code: the word of a figure below 0 is 2^31 or more.
+code-is : (z : ℤ) → mag z < 2 ^ 31 → leb (wordOf z) mostState ≡ isCode z
+unfolding wordOf
+code-is (pos n) h = refl
+code-is (negsuc n) h = lt-leb (wordOf (negsuc n)) mostState (omega arith)
+
+-- A value of 32 bits is in range where it is not larger than it may be.
+pub value-is : (k : Kind) (z : ℤ) → mag z < 2 ^ 31 → leb (valueSizeBy k z) (mostValueBy k) ≡ valueIn k z
+value-is (sets a0) z h = refl
+value-is (sets a1) z h = refl
+value-is (sets a2) z h = code-is z h
+value-is (adds a) z h = refl
+value-is (reads m) z h = none (size z)
 
 -- Four tests are three and the last.
 last-of : (a b c d : Bool) → allTrue (a ∷ b ∷ c ∷ d ∷ []) ≡ (allTrue (a ∷ b ∷ c ∷ []) && d)
@@ -80,8 +90,8 @@ limits f now next h =
 -- ---- by kind
 
 module _ (now next : ℕ) (c : Claim) where
-  -- A write: the two tests v and w of its value are the law's test z; its own error is within the limit l.
-  module _ (v w z : Bool) (l : ℕ) (most : l ≤ mostError) (both : allTrue (v ∷ w ∷ []) ≡ z) where
+  -- A write: the test v is of its value; its own error is within the limit l.
+  module _ (v : Bool) (l : ℕ) (most : l ≤ mostError) where
     abbrev ours : List Bool
     ours =
         ltb (c .method) 7
@@ -89,14 +99,13 @@ module _ (now next : ℕ) (c : Claim) where
         ∷ ltb (c .ticket) next
         ∷ leb (c .priority) mostPriority
         ∷ v
-        ∷ w
         ∷ leb (c .error) l
         ∷ leb (c .measured) now
         ∷ leb (c .flag) 0
         ∷ []
 
     abbrev fields : List Bool
-    fields = z ∷ eqb (c .flag) 0 ∷ leb (c .measured) now ∷ leb (c .error) mostError ∷ []
+    fields = v ∷ eqb (c .flag) 0 ∷ leb (c .measured) now ∷ leb (c .error) mostError ∷ []
 
     abbrev theirs : List Bool
     theirs = claimFits next c ∷ allTrue fields ∷ leb (c .error) l ∷ []
@@ -105,15 +114,14 @@ module _ (now next : ℕ) (c : Claim) where
     unfolding claimFits
     there e =
         let t = passed ours e in
-        let s = t .1 .1 .1 .1 in
-        let r = s .1 .1 in
+        let r = t .1 .1 .1 .1 .1 in
         let f : c .flag ≤ 0 = leb-true (c .flag) 0 (r .1 .1 .0) in
         let o : c .error ≤ l = leb-true (c .error) l (r .0) in
         all-passed theirs
         (all-passed (claimTests next c)
         (t .1 .1 .1 .0 and le-leb (c .flag) mostFlag (omega arith) and t .1 .0 and t .1 .1 .0 and t .0 and tt)
         and all-passed fields
-        (sym both ∙ all-passed (v ∷ w ∷ []) (s .0 and s .1 .0 and tt)
+        (t .1 .1 .1 .1 .0
         and eq-eqb (c .flag) 0 (omega arith)
         and r .1 .0
         and le-leb (c .error) mostError (omega arith)
@@ -127,14 +135,12 @@ module _ (now next : ℕ) (c : Claim) where
         let t = passed theirs e in
         let p = passed (claimTests next c) (t .0) in
         let f = passed fields (t .1 .0) in
-        let value = passed (v ∷ w ∷ []) (both ∙ f .0) in
         all-passed ours
         (p .1 .1 .1 .1 .0
         and p .1 .1 .0
         and p .1 .1 .1 .0
         and p .0
-        and value .0
-        and value .1 .0
+        and f .0
         and t .1 .1 .0
         and f .1 .1 .0
         and le-leb (c .flag) 0 (omega (arith, eqb-true (c .flag) 0 (f .1 .0)))
@@ -150,8 +156,7 @@ module _ (now next : ℕ) (c : Claim) where
       ∷ leb 1 (c .ticket)
       ∷ ltb (c .ticket) next
       ∷ leb (c .priority) mostPriority
-      ∷ leb (size (c .value)) 0
-      ∷ true
+      ∷ eqb (size (c .value)) 0
       ∷ leb (c .error) mostError
       ∷ leb (c .measured) 0
       ∷ leb (c .flag) mostFlag
@@ -169,11 +174,10 @@ module _ (now next : ℕ) (c : Claim) where
       same-test (allTrue oursRead) (allTrue theirsRead)
       (λ e.
       let t = passed oursRead e in
-      let s = t .1 .1 .1 .1 in
-      let r = s .1 .1 in
+      let r = t .1 .1 .1 .1 .1 in
       all-passed theirsRead
       (all-passed (claimTests next c) (t .1 .1 .1 .0 and r .1 .1 .0 and t .1 .0 and t .1 .1 .0 and t .0 and tt)
-      and all-passed fieldsRead (sym (none (size (c .value))) ∙ s .0 and sym (none (c .measured)) ∙ r .1 .0 and r .0 and tt)
+      and all-passed fieldsRead (t .1 .1 .1 .1 .0 and sym (none (c .measured)) ∙ r .1 .0 and r .0 and tt)
       and refl
       and tt))
       (λ e.
@@ -185,8 +189,7 @@ module _ (now next : ℕ) (c : Claim) where
       and p .1 .1 .0
       and p .1 .1 .1 .0
       and p .0
-      and none (size (c .value)) ∙ f .0
-      and refl
+      and f .0
       and f .1 .1 .0
       and none (c .measured) ∙ f .1 .0
       and p .1 .0
@@ -230,15 +233,12 @@ module _ (f : Figures) (now next : ℕ) (c : Claim) where
     pass-is : (k : Kind) →
         allTrue (aloneTests (f .f0 .limit) (f .f1 .limit) now next k c)
         ≡ allTrue (claimFits next c ∷ allTrue (fieldTests now k c) ∷ ownFits f k (c .error) ∷ [])
-    pass-is (sets a0) = write-is now next c value true value (f .f0 .limit) used (and-true value)
-    pass-is (sets a1) = write-is now next c value true value (f .f1 .limit) promised (and-true value)
-    pass-is (sets a2) =
-        rw state
-        (write-is now next c (leb (size (c .value)) mostState) (not (ltZ (c .value) (pos 0))) (valueFits a2 (c .value)) 0
-        (omega arith) (code-is (c .value)))
-    pass-is (adds a0) = write-is now next c value true value (f .f0 .limit) used (and-true value)
-    pass-is (adds a1) = write-is now next c value true value (f .f1 .limit) promised (and-true value)
-    pass-is (adds a2) = rw state (write-is now next c value true value 0 (omega arith) (and-true value))
+    pass-is (sets a0) = write-is now next c value (f .f0 .limit) used
+    pass-is (sets a1) = write-is now next c value (f .f1 .limit) promised
+    pass-is (sets a2) = rw state (write-is now next c (isCode (c .value)) 0 (omega arith))
+    pass-is (adds a0) = write-is now next c value (f .f0 .limit) used
+    pass-is (adds a1) = write-is now next c value (f .f1 .limit) promised
+    pass-is (adds a2) = rw state (write-is now next c value 0 (omega arith))
     pass-is (reads m) = read-is now next c
 
     pub active-is : allTrue (activeFront ++ (amountFits ∷ [])) ≡ activeFits f now next c

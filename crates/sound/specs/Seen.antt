@@ -10,7 +10,7 @@ use Rattle.law.specs.Base.{sumOf}
 use Rattle.law.specs.Types.{Disk as LawDisk}
 use Rattle.law.specs.Sound.{claimsOn}
 use Rattle.lock.specs.Pairs.{addOf}
-use Rattle.lock.specs.Masks.{methodsOf, shares}
+use Rattle.lock.specs.Masks.{methodsOf, twiceOf, shares}
 
 -- ---- tickets
 
@@ -33,13 +33,14 @@ mayClash methods twice =
 
 -- ---- what is handed on
 
--- To the decision: the sum of |d| over the active adds, and the methods of the active claims.
-abbrev pub SeenIs : ℕ → ℕ → LawDisk → Type 0
-SeenIs adds methods d = (adds ≡ sumOf addOf (d .core .active)) × (methods ≡ methodsOf (d .core .active))
+-- To the decision: the sum of |d| over the active adds, the methods of the active claims, and those that more than one has.
+abbrev pub SeenIs : ℕ → ℕ → ℕ → LawDisk → Type 0
+SeenIs adds methods twice d =
+    (adds ≡ sumOf addOf (d .core .active)) × (methods ≡ methodsOf (d .core .active)) × (twice ≡ twiceOf (d .core .active))
 
 -- Of a disk that is not sound, nothing.
-abbrev pub Nothing : ℕ → ℕ → Type 0
-Nothing adds methods = (adds ≡ 0) × (methods ≡ 0)
+abbrev pub Nothing : ℕ → ℕ → ℕ → Type 0
+Nothing adds methods twice = (adds ≡ 0) × (methods ≡ 0) × (twice ≡ 0)
 
 -- To the walk over the waiting claims: a mask of tickets with which, as long as none has been met again, it decides whether
 -- the claims of the disk meet none.

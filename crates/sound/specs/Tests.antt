@@ -1,12 +1,12 @@
 -- What the code tests of a disk, in its own order: its figures, its active claims, its waiting ones. The tests of single
 -- claims and attributes are the law's.
 use Prim.Native.Nat.{ℕ, _+_}
-use mathlib.Core.Bool.{Bool, true, false, cond, not, _&&_}
+use mathlib.Core.Bool.{Bool, true, false, cond, not}
 use mathlib.Core.List.{List, [], _∷_, _++_}
 use lib.Dec.{leb, ltb, eqb}
-use lib.IntN.{pos}
-use lib.Signed.{ltZ}
+use lib.IntN.{ℤ}
 use Rattle.num.specs.Metric.{size}
+use Rattle.num.specs.Signed.{wordOf}
 use Rattle.law.specs.declared.Attr.{Attr}
 use Rattle.law.specs.declared.Claim.{Claim}
 use Rattle.law.specs.Base.{allTrue, everyOf, everyPair, sumOf}
@@ -93,13 +93,23 @@ mostValueBy (sets a2) = mostState
 mostValueBy (adds a) = mostValue
 mostValueBy (reads m) = 0
 
--- It sets the state, which is not below 0.
+-- It sets the state.
 abbrev pub isStateSet : Kind → Bool
 isStateSet (sets a0) = false
 isStateSet (sets a1) = false
 isStateSet (sets a2) = true
 isStateSet (adds a) = false
 isStateSet (reads m) = false
+
+-- How large its value is: of a state its word, so that one below 0 is far above any state.
+abbrev pub valueSizeBy : Kind → ℤ → ℕ
+valueSizeBy k z = cond (isStateSet k) (wordOf z) (size z)
+
+-- Its value is in range, as 17 has it. (AloneLaws: of 32 bits, where it is not larger than it may be.)
+abbrev pub valueIn : Kind → ℤ → Bool
+valueIn (sets a) z = valueFits a z
+valueIn (adds a) z = leb (size z) mostValue
+valueIn (reads m) z = eqb (size z) 0
 
 -- The limit of an attribute, by those of used and promised; that of the state is 0. Then that of what a write writes.
 abbrev pub limitOn : ℕ → ℕ → Attribute → ℕ
@@ -123,8 +133,7 @@ aloneFront used promised now next k c =
     ∷ leb 1 (c .ticket)
     ∷ ltb (c .ticket) next
     ∷ leb (c .priority) mostPriority
-    ∷ leb (size (c .value)) (mostValueBy k)
-    ∷ not (isStateSet k && ltZ (c .value) (pos 0))
+    ∷ valueIn k (c .value)
     ∷ leb (c .error) (mostErrorBy used promised k)
     ∷ leb (c .measured) (ifReading k 0 now)
     ∷ []

@@ -36,12 +36,13 @@ const SET_STATE: u64 = 8;
 
 const READ_STATE: u64 = 64;
 
-// What the walk over the active claims has seen: whether they pass, and if so the sum of |d| over the adds, the methods, and
-// the bits of the tickets' last six, those met and those met again.
+// What the walk over the active claims has seen: whether they pass, and if so the sum of |d| over the adds, the methods, those
+// that more than one claim has, and the bits of the tickets' last six, those met and those met again.
 pub struct Walked {
     pub ok: bool,
     pub adds: u64,
     pub methods: u64,
+    pub twice: u64,
     pub tickets: u64,
     pub again: u64,
 }
@@ -52,7 +53,7 @@ pub fn actives_fit(s: &[u8]) -> Walked
     requires { ⌜ decodes (now s) ≡ true ⌝ }
     requires { ⌜ figuresFit (figuresIn (decode (now s))) (decode (now s) .clock) (decode (now s) .next) ≡ true ⌝ }
     ensures { λ r. ⌜ r .ok ≡ activesFit (diskOf (decode (now (s .entry)))) ⌝ }
-    ensures { λ r. ⌜ (r .ok ≡ true → SeenIs (r .adds) (r .methods) (diskOf (decode (now (s .entry))))) ⌝ }
+    ensures { λ r. ⌜ (r .ok ≡ true → SeenIs (r .adds) (r .methods) (r .twice) (diskOf (decode (now (s .entry))))) ⌝ }
     ensures { λ r. ⌜ (r .ok ≡ true → Onward (r .tickets) (r .again) (diskOf (decode (now (s .entry))))) ⌝ }
 {
     let clock = word_at(s, 0);
@@ -89,6 +90,7 @@ pub fn actives_fit(s: &[u8]) -> Walked
         ok,
         adds,
         methods,
+        twice,
         tickets,
         again,
     }
@@ -102,6 +104,7 @@ fn failed() -> Walked
         ok: false,
         adds: 0,
         methods: 0,
+        twice: 0,
         tickets: 0,
         again: 0,
     }

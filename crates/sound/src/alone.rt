@@ -3,16 +3,16 @@
 
 ghost use mathlib.Core.Path.{_≡_};
 ghost use Prim.Native.Nat.{_≤_};
-ghost use Rattle.law.specs.Entries.{kindAt};
+ghost use Rattle.law.specs.Entries.{kindAt, kindOf};
 ghost use Rattle.law.specs.DiskType.{diskTable};
 ghost use Rattle.lock.specs.Methods.{figuresOf};
-ghost use Rattle.sound.specs.Tests.{ifReading, mostValueBy, limitBy, mostErrorBy, aloneFits, activeFits, waitingFits};
+ghost use Rattle.sound.specs.Tests.{ifReading, mostValueBy, valueSizeBy, limitBy, mostErrorBy, aloneFits, activeFits, waitingFits};
 use law::Attr;
 use law::Claim;
 use lock::method::METHODS;
 use lock::method::is_reading;
 use num::signed::size;
-use num::truth::both;
+use num::signed::to_word;
 
 const MOST_VALUE: u32 = 1000000000;
 
@@ -44,6 +44,17 @@ fn most_value(m: u32) -> u32
         MOST_VALUE
     } else {
         if m == SET_STATE { MOST_STATE } else { 0 }
+    }
+}
+
+// How large a value is: of a state its word, so that one below 0 is far above any state.
+fn value_size(c: Claim) -> u32
+    ensures { λ r. ⌜ r ≡ valueSizeBy (kindOf diskTable c) (c .value) ⌝ }
+{
+    if c.method == SET_STATE {
+        to_word(c.value)
+    } else {
+        size(c.value)
     }
 }
 
@@ -82,10 +93,7 @@ fn alone(c: Claim, clock: u32, next: u32, used: u32, promised: u32) -> bool
     if MOST_PRIORITY < c.priority {
         return false;
     }
-    if most_value(c.method) < size(c.value) {
-        return false;
-    }
-    if both(c.method == SET_STATE, c.value < 0) {
+    if most_value(c.method) < value_size(c) {
         return false;
     }
     if most_error(c.method, used, promised) < c.error {

@@ -23,11 +23,12 @@ use crate::waiting::in_order;
 use crate::waiting::waitings_fit;
 
 // What the soundness test has seen: whether the disk is sound, and if so, for the decision, the sum of |d| over the active
-// adds and the methods of the active claims.
+// adds, the methods of the active claims and those that more than one has.
 pub struct Seen {
     pub ok: bool,
     pub adds: u64,
     pub methods: u64,
+    pub twice: u64,
 }
 
 // Whether the disk of a part that decodes is sound: the figures; the active claims, each by itself and with each behind
@@ -37,8 +38,8 @@ pub fn is_sound(s: &[u8]) -> Seen
     requires { ⌜ length (now s) ≡ 768 ⌝ }
     requires { ⌜ decodes (now s) ≡ true ⌝ }
     ensures { λ r. ⌜ r .ok ≡ sound diskTable (diskOf (decode (now (s .entry)))) ⌝ }
-    ensures { λ r. ⌜ (r .ok ≡ true → SeenIs (r .adds) (r .methods) (diskOf (decode (now (s .entry))))) ⌝ }
-    ensures { λ r. ⌜ (r .ok ≡ false → Nothing (r .adds) (r .methods)) ⌝ }
+    ensures { λ r. ⌜ (r .ok ≡ true → SeenIs (r .adds) (r .methods) (r .twice) (diskOf (decode (now (s .entry))))) ⌝ }
+    ensures { λ r. ⌜ (r .ok ≡ false → Nothing (r .adds) (r .methods) (r .twice)) ⌝ }
 {
     if !figures_hold(s) {
         return unsound();
@@ -63,17 +64,19 @@ pub fn is_sound(s: &[u8]) -> Seen
         ok: true,
         adds: a.adds,
         methods: a.methods,
+        twice: a.twice,
     }
 }
 
 // A test has failed: nothing is handed on.
 fn unsound() -> Seen
     ensures { λ r. ⌜ r .ok ≡ false ⌝ }
-    ensures { λ r. ⌜ Nothing (r .adds) (r .methods) ⌝ }
+    ensures { λ r. ⌜ Nothing (r .adds) (r .methods) (r .twice) ⌝ }
 {
     Seen {
         ok: false,
         adds: 0,
         methods: 0,
+        twice: 0,
     }
 }

@@ -24,7 +24,8 @@ pub struct Waited {
     pub again: u64,
 }
 
-// Each waiting claim fits by itself. The bits of the tickets are gathered on from those handed in.
+// Each waiting claim fits by itself; where none waits nothing more is read. The bits of the tickets are gathered on from those
+// handed in.
 pub fn waitings_fit(s: &[u8], tickets: u64, again: u64) -> Waited
     requires { ⌜ length (now s) ≡ 768 ⌝ }
     requires { ⌜ decodes (now s) ≡ true ⌝ }
@@ -32,9 +33,12 @@ pub fn waitings_fit(s: &[u8], tickets: u64, again: u64) -> Waited
     ensures { λ r. ⌜ r .ok ≡ waitingsFit (diskOf (decode (now (s .entry)))) ⌝ }
     ensures { λ r. ⌜ (r .ok ≡ true → r .again ≡ 0 → Unmet tickets again (diskOf (decode (now (s .entry))))) ⌝ }
 {
+    let m = word_at(s, 12) as usize;
+    if m == 0 {
+        return Waited { ok: true, again };
+    }
     let clock = word_at(s, 0);
     let next = word_at(s, 4);
-    let m = word_at(s, 12) as usize;
     let used = used_at(s);
     let promised = promised_at(s);
     let state = code_at(s);

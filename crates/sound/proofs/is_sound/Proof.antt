@@ -64,7 +64,9 @@ module _ (c : tie.Else4) where
       and went (c .before .in-order .ensures) (c .if4 .left)
       and tt
 
-  seen : SeenIs (second .before .before .actives-fit .result .adds) (second .before .before .actives-fit .result .methods) (disk (start first))
+  seen :
+      let r = second .before .before .actives-fit .result in
+      SeenIs (r .adds) (r .methods) (r .twice) (disk (start first))
   seen = second .before .before .actives-fit .ensures .1 .0 (not-false _ (second .if2 .left))
 
   -- The tickets decide.

@@ -277,7 +277,7 @@ returns-3 c =
       rw (v, adds-is e)
           (ap (λ (a : Attr). leb (size (a .value) + sumOf addOf (actives (decode s))) mostValue) (k .before .promised-at .ensures)
           ∙ test-last (activesFront d) (sumTest d) (each-is e, (met, tt))),
-      ((λ h. (adds-is e, methods-is e)), (λ h. onward e)),
+      ((λ h. (adds-is e, methods-is e, twice-is e)), (λ h. onward e)),
     )
 
 pub actives-fit-spec : {M : Type 1} → statement M

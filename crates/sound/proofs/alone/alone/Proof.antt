@@ -1,20 +1,18 @@
 -- Where a test fails the claim does not fit; the last one decides.
-use mathlib.Core.Bool.{Bool, not, _&&_}
+use Prim.Native.Nat.{_^_, _<_}
+use mathlib.Core.Bool.{Bool}
 use mathlib.Core.List.{List}
-use mathlib.Core.Path.{_≡_, refl, sym, ap, _∙_}
+use mathlib.Core.Path.{_≡_, refl, ap, sym, _∙_}
 use borrow.Author.Needs.{needs}
 use borrow.Author.Tests.{lt-leb, le-leb, lt-ltb, le-ltb}
-use mir.Facts.{toZ-ofZ}
 use lib.Dec.{leb}
-use lib.IntN.{pos}
-use lib.Signed.{ltZ}
-use Rattle.num.specs.Metric.{size}
+use lib.Signed.{mag}
 use Rattle.law.specs.Entries.{kindOf}
 use Rattle.law.specs.Says.{_and_}
 use Rattle.law.specs.DiskType.{diskTable}
-use Rattle.sound.specs.Tests.{isStateSet, aloneFront, flagTest, aloneTests, aloneFits}
+use Rattle.sound.specs.Tests.{aloneFront, flagTest, aloneTests, aloneFits}
 use Rattle.sound.proofs.TestLaws.{test-fails, test-last, above, within}
-use Rattle.sound.proofs.AloneLaws.{state-set}
+use Rattle.sound.proofs.AloneLaws.{value-is}
 use Rattle.sound.proofs.alone.alone.Statement.{statement}
 use Rattle.sound.proofs.alone.alone.Tie as tie
 
@@ -22,30 +20,19 @@ use Rattle.sound.proofs.alone.alone.Tie as tie
 abbrev tests : tie.Start → List Bool
 tests s = let a = s .args in aloneTests (a .used) (a .promised) (a .clock) (a .next) (kindOf diskTable (a .c)) (a .c)
 
--- The start, from behind the fourth to the seventh test.
+-- The start, from behind the fourth to the sixth test.
 abbrev from4 : tie.Else4 → tie.Start
 from4 k = k .before .before .before .before .before .before .before .before
 
 abbrev from5 : tie.Else5 → tie.Start
-from5 k = from4 (k .before .before .before .before)
+from5 k = from4 (k .before .before .before)
 
 abbrev from6 : tie.Else6 → tie.Start
-from6 k = from5 (k .before .before .before .before .before)
+from6 k = from5 (k .before .before .before)
 
-abbrev from7 : tie.Else7 → tie.Start
-from7 k = from6 (k .before .before .before)
-
--- The size of the value, and whether it is a state below 0.
-size-is : (c : tie.After-size) → c .size .result ≡ size (from4 (c .before .before .before) .args .c .value)
-size-is c = rw (toZ-ofZ (record { sfits = c .before .struct-told .given .1 .1 .1 .1 .1 .0 .1 })) at (c .size .ensures .0)
-
-sign-is : (c : tie.After-both) →
-    let a = from5 (c .before .before .before .before) .args in
-    c .both .result ≡ (isStateSet (kindOf diskTable (a .c)) && ltZ (a .c .value) (pos 0))
-sign-is c =
-    let a = from5 (c .before .before .before .before) .args in
-    (rw (toZ-ofZ (record { sfits = c .before .struct-told2 .given .1 .1 .1 .1 .1 .0 .1 })) at (c .both .ensures))
-    ∙ ap (λ (b : Bool). b && ltZ (a .c .value) (pos 0)) (state-set (a .c .method))
+-- The value is one of 32 bits.
+in-word : (s : tie.Start) → mag (s .args .c .value) < 2 ^ 31
+in-word s = s .good .0 .1 .1 .1 .1 .1 .1 .1 .0 .1
 
 returns : tie.Need-returns
 unfolding aloneFits
@@ -66,53 +53,49 @@ returns-4 c = test-fails (tests (c .before .before .before .before .before .befo
 most-value-requires : tie.Need-most-value-requires
 most-value-requires c κs = search needs
 
-size-requires : tie.Need-size-requires
-size-requires c κs = search needs
+value-size-requires : tie.Need-value-size-requires
+value-size-requires c κs = search needs
 
 returns-5 : tie.Need-returns-5
 unfolding aloneFits
 returns-5 c =
-    test-fails (tests (from4 (c .before .before .before .before))) 4
-    (above _ _ _ _ (size-is (c .before)) (c .before .before .before .most-value .ensures) (c .if5 .taken))
-
-both-requires : tie.Need-both-requires
-both-requires c κs = search needs
-
-returns-6 : tie.Need-returns-6
-unfolding aloneFits
-returns-6 c = test-fails (tests (from5 (c .before .before .before .before .before))) 5 (ap not (sym (sign-is (c .before)) ∙ c .if6 .taken))
+    let v = c .before in
+    let s = from4 (v .before .before) in
+    test-fails (tests s) 4
+    (sym (value-is (kindOf diskTable (s .args .c)) (s .args .c .value) (in-word s))
+    ∙ above _ _ _ _ (v .value-size .ensures) (v .before .most-value .ensures) (c .if5 .taken))
 
 most-error-requires : tie.Need-most-error-requires
 most-error-requires c κs = search needs
 
-returns-7 : tie.Need-returns-7
+returns-6 : tie.Need-returns-6
 unfolding aloneFits
-returns-7 c =
-    test-fails (tests (from6 (c .before .before .before))) 6 (above _ _ _ _ refl (c .before .before .most-error .ensures) (c .if7 .taken))
+returns-6 c =
+    test-fails (tests (from5 (c .before .before .before))) 5 (above _ _ _ _ refl (c .before .before .most-error .ensures) (c .if6 .taken))
 
 if-reading-requires : tie.Need-if-reading-requires
 if-reading-requires c κs = search needs
 
-returns-8 : tie.Need-returns-8
+returns-7 : tie.Need-returns-7
 unfolding aloneFits
-returns-8 c =
-    test-fails (tests (from7 (c .before .before .before))) 7 (above _ _ _ _ refl (c .before .before .if-reading .ensures) (c .if8 .taken))
+returns-7 c =
+    test-fails (tests (from6 (c .before .before .before))) 6 (above _ _ _ _ refl (c .before .before .if-reading .ensures) (c .if7 .taken))
 
 if-reading-requires-2 : tie.Need-if-reading-requires-2
 if-reading-requires-2 c κs = search needs
 
-returns-9 : tie.Need-returns-9
+returns-8 : tie.Need-returns-8
 unfolding aloneFits
-returns-9 c =
+returns-8 c =
     let measured = c .before .before in
     let error = measured .before .before .before in
-    let sign = error .before .before .before in
-    let value = sign .before .before .before .before .before in
-    let priority = value .before .before .before .before in
+    let value = error .before .before .before in
+    let priority = value .before .before .before in
     let below = priority .before .before in
     let first = below .before .before in
     let method = first .before .before in
-    let a = method .before .before .args in
+    let s = method .before .before in
+    let a = s .args in
     let k = kindOf diskTable (a .c) in
     ap (leb (a .c .flag)) (c .before .if-reading2 .ensures)
     ∙ test-last (aloneFront (a .used) (a .promised) (a .clock) (a .next) k (a .c)) (flagTest k (a .c))
@@ -120,10 +103,10 @@ returns-9 c =
     and le-leb _ _ (first .if2 .left)
     and lt-ltb _ _ (below .if3 .left)
     and le-leb _ _ (priority .if4 .left)
-    and within _ _ _ _ (size-is (value .before)) (value .before .before .before .most-value .ensures) (value .if5 .left)
-    and ap not (sym (sign-is (sign .before)) ∙ sign .if6 .left)
-    and within _ _ _ _ refl (error .before .before .most-error .ensures) (error .if7 .left)
-    and within _ _ _ _ refl (measured .before .before .if-reading .ensures) (measured .if8 .left)
+    and sym (value-is k (a .c .value) (in-word s))
+    ∙ within _ _ _ _ (value .before .value-size .ensures) (value .before .before .most-value .ensures) (value .if5 .left)
+    and within _ _ _ _ refl (error .before .before .most-error .ensures) (error .if6 .left)
+    and within _ _ _ _ refl (measured .before .before .if-reading .ensures) (measured .if7 .left)
     and tt)
 
 pub alone-spec : {M : Type 1} → statement M
@@ -135,13 +118,11 @@ alone-spec =
     returns-3
     returns-4
     most-value-requires
-    size-requires
+    value-size-requires
     returns-5
-    both-requires
-    returns-6
     most-error-requires
-    returns-7
+    returns-6
     if-reading-requires
-    returns-8
+    returns-7
     if-reading-requires-2
-    returns-9)
+    returns-8)

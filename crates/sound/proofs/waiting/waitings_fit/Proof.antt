@@ -1,5 +1,5 @@
--- The claims before i have passed, and those from i on decide; the mask with what is left from i on says what the mask handed
--- in says of them all.
+-- Where none waits all pass. The claims before i have passed, and those from i on decide; the mask with what is left from i on
+-- says what the mask handed in says of them all.
 use borrow.Author.Needs.{needs}
 use Prim.Native.Nat.{ℕ, _+_, _-_, _<_, _≤_}
 use mathlib.Core.Bool.{Bool, true}
@@ -13,7 +13,7 @@ use Rattle.law.specs.Base.{everyOf}
 use Rattle.law.specs.Lists.{never-true}
 use Rattle.lock.specs.Methods.{figuresOf}
 use Rattle.rules.specs.Disks.{figuresIn}
-use Rattle.part.specs.Layout.{decode, decodes}
+use Rattle.part.specs.Layout.{decode}
 use Rattle.claims.specs.Rows.{Row, noClaim}
 use Rattle.claims.specs.RowLaws.{left-on, left-end, every-on, every-not, every-end}
 use Rattle.sound.specs.Tests.{waitingFits}
@@ -33,60 +33,71 @@ abbrev left : List ℕ → ℕ → List Claim
 left s i = drop i (waitings (decode s))
 
 abbrev Inv : tie.InvT-loop
-Inv s tickets again clock next m used promised state mask₀ met₀ i₀ mask met i =
+Inv s tickets again m clock next used promised state mask₀ met₀ i₀ mask met i =
     (everyOf (fit s) (left s i) ≡ everyOf (fit s) (waitings (decode s)))
     × (met ≡ 0 → (again ≡ 0) × (free mask (left s i) ≡ free tickets (waitings (decode s))))
 
 abbrev μ : tie.MeasureT-loop
-μ s tickets again clock next m used promised state mask₀ met₀ i₀ mask met i = m - i
+μ s tickets again m clock next used promised state mask₀ met₀ i₀ mask met i = m - i
 
--- The place where the figures are read, and the part there.
+-- The place where the count is read, and the part there.
+abbrev Counted : Type 0
+Counted = tie.After-word-at Inv μ
+
+abbrev part : Counted → List ℕ
+part k = k .before .before .args .s .now
+
+long : (k : Counted) → length (part k) ≡ 768
+long k = k .before .before .pre .0
+
+count : (k : Counted) → k .word-at .result ≡ decode (part k) .waitings
+count k = k .word-at .ensures ∙ waitings-read (part k)
+
+row : (k : Counted) → Row (decode (part k) .waiting) (decode (part k) .waitings)
+row k = good (part k) (long k) (k .before .before .pre .1 .0) .waiting
+
+-- The place where the figures are read, and the count before it.
 abbrev Read : Type 0
 Read = tie.After-code-at Inv μ
 
-abbrev part : Read → List ℕ
-part k = k .before .before .before .before .before .before .before .args .s .now
-
-long : (k : Read) → length (part k) ≡ 768
-long k = k .before .before .before .before .before .before .before .pre .0
-
-sane : (k : Read) → decodes (part k) ≡ true
-sane k = k .before .before .before .before .before .before .before .pre .1 .0
-
-count : (k : Read) → k .before .before .before .word-at3 .result ≡ decode (part k) .waitings
-count k = k .before .before .before .word-at3 .ensures ∙ waitings-read (part k)
-
-row : (k : Read) → Row (decode (part k) .waiting) (decode (part k) .waitings)
-row k = good (part k) (long k) (sane k) .waiting
+abbrev counted : Read → Counted
+counted k = k .before .before .before .before .before .before
 
 -- The test of a claim with the figures read is that with the disk's.
 fits : (k : Read) (x : Claim) →
     waitingFits
     (figuresOf (k .before .before .used-at .result) (k .before .promised-at .result) (k .code-at .result))
-    (k .before .before .before .before .before .word-at .result) (k .before .before .before .before .word-at2 .result) x
-    ≡ fit (part k) x
+    (k .before .before .before .before .word-at2 .result) (k .before .before .before .word-at3 .result) x
+    ≡ fit (part (counted k)) x
 fits k x i =
     waitingFits
     (figuresOf (k .before .before .used-at .ensures i) (k .before .promised-at .ensures i) (k .code-at .ensures i))
-    ((k .before .before .before .before .before .word-at .ensures ∙ clock-read (part k)) i)
-    ((k .before .before .before .before .word-at2 .ensures ∙ next-read (part k)) i) x
+    ((k .before .before .before .before .word-at2 .ensures ∙ clock-read (part (counted k))) i)
+    ((k .before .before .before .word-at3 .ensures ∙ next-read (part (counted k))) i) x
 
 -- A turn: the claim read at i, and those behind it.
-turn : (k : Read) (i : ℕ) (x : Claim) → i < k .before .before .before .word-at3 .result →
+turn : (k : Counted) (i : ℕ) (x : Claim) → i < k .word-at .result →
     x ≡ getD (decode (part k) .waiting) i noClaim → left (part k) i ≡ x ∷ left (part k) (i + 1)
 turn k i x h e = left-on (row k) i (omega (arith, h, count k)) ∙ ap (λ (y : Claim). y ∷ left (part k) (i + 1)) (sym e)
 
 word-at-requires : tie.Need-word-at-requires Inv μ
 word-at-requires c κs = search needs
 
+cast-m : tie.Need-cast-m Inv μ
+cast-m c = search needs
+
+returns : tie.Need-returns Inv μ
+returns c =
+    let k = c .before in
+    let s = part k in
+    let end : decode s .waitings ≤ 0 = omega (arith, c .if1 .taken, count k) in
+    (every-end (row k) (fit s) 0 end, λ h e. (e, free-end (k .before .before .args .tickets) (left-end (row k) 0 end)))
+
 word-at-requires-2 : tie.Need-word-at-requires-2 Inv μ
 word-at-requires-2 c κs = search needs
 
 word-at-requires-3 : tie.Need-word-at-requires-3 Inv μ
 word-at-requires-3 c κs = search needs
-
-cast-m : tie.Need-cast-m Inv μ
-cast-m c = search needs
 
 used-at-requires : tie.Need-used-at-requires Inv μ
 used-at-requires c κs = search needs
@@ -102,26 +113,26 @@ loop-holds c = (refl, λ h. (h, refl))
 
 waiting-at-requires : tie.Need-waiting-at-requires Inv μ
 waiting-at-requires c κs =
-    let k = c .before .before in
+    let k = counted (c .before .before) in
     (long k, omega (arith, c .loop-test .taken, count k, row k .few))
 
 waiting-fits-requires : tie.Need-waiting-fits-requires Inv μ
 waiting-fits-requires c κs =
     let k = c .before .before .before in
-    let l = limits (figuresIn (decode (part k))) _ _ (k .before .before .before .before .before .before .before .pre .1 .1) in
+    let l = limits (figuresIn (decode (part (counted k)))) _ _ (counted k .before .before .pre .1 .1) in
     let used = k .before .before .used-at .ensures in
     let promised = k .before .promised-at .ensures in
     (rw used (l .0), (rw promised (l .1), rw (k .code-at .ensures) (l .2)))
 
-returns : tie.Need-returns Inv μ
-returns c =
+returns-2 : tie.Need-returns-2 Inv μ
+returns-2 c =
     let t = c .before .before .before in
     let l = t .before in
-    let k = l .before in
+    let k = counted (l .before) in
     let s = part k in (
       every-not (row k) (fit s) (l .loop .i) (omega (arith, t .loop-test .taken, count k))
           (there (fit s) (c .before .before .waiting-at .ensures)
-          (sym (c .before .waiting-fits .ensures ∙ fits k _) ∙ not-true _ (c .if1 .taken)))
+          (sym (c .before .waiting-fits .ensures ∙ fits (l .before) _) ∙ not-true _ (c .if2 .taken)))
           ∙ l .loop .inv .0,
       λ h. never-true _ h,
     )
@@ -132,7 +143,7 @@ bit-of-requires c κs = tt
 add-i : tie.Need-add-i Inv μ
 add-i c =
     let t = c .before .before .before .before in
-    let k = t .before .before in
+    let k = counted (t .before .before) in
     record { fits = omega (arith, t .loop-test .taken, count k, row k .few) }
 
 loop-less : tie.Need-loop-less Inv μ
@@ -143,23 +154,23 @@ loop-again c =
     let a = c .before .before .before in
     let t = a .before in
     let l = t .before in
-    let k = l .before in
+    let k = counted (l .before) in
     let s = part k in
     let i = l .loop .i in
     let e = a .waiting-at .ensures in
     let m = turn k i (a .waiting-at .result) (t .loop-test .taken) e in (
       every-on (row k) (fit s) i (omega (arith, t .loop-test .taken, count k))
-          (there (fit s) e (sym (c .before .before .waiting-fits .ensures ∙ fits k _) ∙ not-false _ (c .before .if1 .left)))
+          (there (fit s) e (sym (c .before .before .waiting-fits .ensures ∙ fits (l .before) _) ∙ not-false _ (c .before .if2 .left)))
           ∙ l .loop .inv .0,
       λ h.
           let z = l .loop .inv .1 (none-before (l .loop .mask) (l .loop .met) (c .bit-of .result) m (c .bit-of .ensures) h) in
           (z .0, free-on (l .loop .mask) (l .loop .met) (c .bit-of .result) m (c .bit-of .ensures) h ∙ z .1),
     )
 
-returns-2 : tie.Need-returns-2 Inv μ
-returns-2 c =
+returns-3 : tie.Need-returns-3 Inv μ
+returns-3 c =
     let l = c .before in
-    let k = l .before in
+    let k = counted (l .before) in
     let s = part k in
     let end : decode s .waitings ≤ l .loop .i = omega (arith, c .loop-test .left, count k) in (
       every-end (row k) (fit s) (l .loop .i) end ∙ l .loop .inv .0,
@@ -175,18 +186,19 @@ waitings-fit-spec =
     Inv
     μ
     word-at-requires
+    cast-m
+    returns
     word-at-requires-2
     word-at-requires-3
-    cast-m
     used-at-requires
     promised-at-requires
     code-at-requires
     loop-holds
     waiting-at-requires
     waiting-fits-requires
-    returns
+    returns-2
     bit-of-requires
     add-i
     loop-less
     loop-again
-    returns-2)
+    returns-3)
