@@ -7,15 +7,20 @@ ghost use Rattle.part.specs.Layout.{zeroAt, spareZero, slotsWhole, decod
 use num::truth::both;
 use num::word::word_at;
 
-// Whether a part decodes. Where it holds no claim, as often, all its slots are one range that the compiler knows.
+// Whether a part decodes. Where nothing waits, as often, the waiting slots are one range that the compiler knows; where nothing
+// is active either, all slots are one.
 pub fn decodes(s: &[u8]) -> bool
     requires { ⌜ length (now s) ≡ 768 ⌝ }
     ensures { λ r. ⌜ r ≡ decodes (now (s .entry)) ⌝ }
 {
-    if word_at(s, 8) == 0 {
-        if word_at(s, 12) == 0 {
+    if word_at(s, 12) == 0 {
+        if word_at(s, 8) == 0 {
             return both(zero_words(s, 56, 2), zero_between(s, 64, 768));
         }
+        return both(
+            zero_words(s, 56, 2),
+            both(slots_whole(s, 64, word_at(s, 8)), zero_between(s, 416, 768)),
+        );
     }
     both(
         zero_words(s, 56, 2),
