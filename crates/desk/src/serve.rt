@@ -6,8 +6,11 @@ ghost use mathlib.Core.Bool.{true};
 ghost use mathlib.Core.List.{[]};
 ghost use lib.ListN.{length};
 ghost use Rattle.law.specs.Calls.{claim as lawClaim, release as lawRelease};
+ghost use Rattle.law.specs.Base.{sumOf};
 ghost use Rattle.law.specs.Sound.{Sound};
 ghost use Rattle.law.specs.DiskType.{diskTable};
+ghost use Rattle.lock.specs.Masks.{methodsOf};
+ghost use Rattle.lock.specs.Pairs.{addOf};
 ghost use Rattle.rules.specs.Answers.{askedOf};
 ghost use Rattle.part.specs.Layout.{decodes};
 ghost use Rattle.part.specs.Held.{held};
@@ -23,6 +26,7 @@ use answer::number;
 use answer::put_answer;
 use answer::refusal_of;
 use judge::judged;
+use judge::step::without_one;
 use num::word::word_at;
 use part::whole::decodes;
 use pass::pass;
@@ -33,6 +37,7 @@ use place::moves::wait;
 use rules::calls::asked;
 use rules::disk::Asked;
 use slots::find_in;
+use sound::Seen;
 use sound::is_sound;
 
 // Refuses: the number in the first item, all else zero.
@@ -45,16 +50,16 @@ pub fn refuse(answer: &mut [u8], r: Refusal) -> u32
     number(r)
 }
 
-// A claim on a sound part, with what its active claims come to.
-fn serve_claim(part: &mut [u8], q: Asked, adds: u64, methods: u64, answer: &mut [u8]) -> u32
+// A claim on a sound part, of which that has been seen.
+fn serve_claim(part: &mut [u8], q: Asked, seen: Seen, answer: &mut [u8]) -> u32
     requires { ⌜ length (now part) ≡ 768 ⌝ }
     requires { ⌜ decodes (now part) ≡ true ⌝ }
     requires { ⌜ Sound diskTable (held (now part)) ⌝ }
     requires { ⌜ length (now answer) ≡ 144 ⌝ }
-    requires { ⌜ SeenIs adds methods (held (now part)) ⌝ }
+    requires { ⌜ SeenIs (seen .adds) (seen .methods) (seen .twice) (held (now part)) ⌝ }
     ensures { λ n. ⌜ stepped n (now (part .exit)) (now (answer .exit)) ≡ written (settled (now (part .entry)) (lawClaim diskTable (held (now (part .entry))) (askedOf q))) ⌝ }
 {
-    let j = judged(part, q, adds, methods);
+    let j = judged(part, q, seen.adds, seen.methods);
     let own = j.own;
     if j.refusal != 0 {
         return refuse(answer, refusal_of(j.refusal));
@@ -70,25 +75,28 @@ fn serve_claim(part: &mut [u8], q: Asked, adds: u64, methods: u64, answer: &mut 
     1
 }
 
-// The claim of that ticket has ended: the release is answered, and the pass runs.
-fn settle(part: &mut [u8], ticket: u32, answer: &mut [u8]) -> u32
+// The claim of that ticket has ended: the release is answered, and the pass runs, with what the active claims come to.
+fn settle(part: &mut [u8], ticket: u32, adds: u64, methods: u64, answer: &mut [u8]) -> u32
     requires { ⌜ length (now part) ≡ 768 ⌝ }
     requires { ⌜ decodes (now part) ≡ true ⌝ }
     requires { ⌜ Sound diskTable (held (now part)) ⌝ }
     requires { ⌜ length (now answer) ≡ 144 ⌝ }
+    requires { ⌜ adds ≡ sumOf addOf (held (now part) .core .active) ⌝ }
+    requires { ⌜ methods ≡ methodsOf (held (now part) .core .active) ⌝ }
     ensures { λ n. ⌜ stepped n (now (part .exit)) (now (answer .exit)) ≡ written (settled (now (part .entry)) (released (held (now (part .entry))) ticket)) ⌝ }
 {
     put_answer(answer, Answer::Released(ticket));
-    pass(part, answer);
+    pass(part, answer, adds, methods);
     2
 }
 
-// A release on a sound part.
-fn serve_release(part: &mut [u8], second: u32, ticket: u32, answer: &mut [u8]) -> u32
+// A release on a sound part, of which that has been seen.
+fn serve_release(part: &mut [u8], second: u32, ticket: u32, seen: Seen, answer: &mut [u8]) -> u32
     requires { ⌜ length (now part) ≡ 768 ⌝ }
     requires { ⌜ decodes (now part) ≡ true ⌝ }
     requires { ⌜ Sound diskTable (held (now part)) ⌝ }
     requires { ⌜ length (now answer) ≡ 144 ⌝ }
+    requires { ⌜ SeenIs (seen .adds) (seen .methods) (seen .twice) (held (now part)) ⌝ }
     ensures { λ n. ⌜ stepped n (now (part .exit)) (now (answer .exit)) ≡ written (settled (now (part .entry)) (lawRelease diskTable (held (now (part .entry))) second ticket)) ⌝ }
 {
     if second < word_at(part, 0) {
@@ -97,14 +105,15 @@ fn serve_release(part: &mut [u8], second: u32, ticket: u32, answer: &mut [u8]) -
     let actives = word_at(part, 8) as usize;
     let at = find_in(&part[64..416], actives, ticket);
     if at < actives {
+        let rest = without_one(part, at, seen.adds, seen.methods, seen.twice);
         end(part, second, at);
-        return settle(part, ticket, answer);
+        return settle(part, ticket, rest.adds, rest.methods, answer);
     }
     let waitings = word_at(part, 12) as usize;
     let place = find_in(&part[416..768], waitings, ticket);
     if place < waitings {
         leave(part, second, place);
-        return settle(part, ticket, answer);
+        return settle(part, ticket, seen.adds, seen.methods, answer);
     }
     refuse(answer, Refusal::Ticket)
 }
@@ -124,7 +133,7 @@ pub fn serve(part: &mut [u8], r: &[u8], answer: &mut [u8]) -> u32
         return refuse(answer, Refusal::Unsound);
     }
     if r[2] == 2 {
-        return serve_claim(part, asked_in(r), seen.adds, seen.methods, answer);
+        return serve_claim(part, asked_in(r), seen, answer);
     }
-    serve_release(part, word_at(r, 8), word_at(r, 12), answer)
+    serve_release(part, word_at(r, 8), word_at(r, 12), seen, answer)
 }

@@ -3,14 +3,16 @@
 
 ghost use mathlib.Core.Bool.{true};
 ghost use mathlib.Core.Path.{_≡_};
-ghost use Prim.Native.Nat.{_≤_};
+ghost use Prim.Native.Nat.{_+_, _≤_, _<_};
 ghost use lib.ListN.{length, take};
 ghost use Rattle.law.specs.Base.{anyOf, everyOf, sumOf};
+ghost use Rattle.law.specs.Lists.{All};
+ghost use Rattle.claims.specs.Rows.{removeAt};
 ghost use Rattle.lock.specs.Pairs.{coreOf, addOf};
-ghost use Rattle.lock.specs.Masks.{methodsOf};
+ghost use Rattle.lock.specs.Masks.{methodsOf, twiceOf};
 ghost use Rattle.rules.specs.Disks.{figuresIn, Good};
 ghost use Rattle.part.specs.Layout.{decode};
-ghost use Rattle.judge.specs.Decisions.{letsOf, costOf, barsOf, activesIn, DecidedIs};
+ghost use Rattle.judge.specs.Decisions.{letsOf, costOf, barsOf, activesIn, HasMethod, BeforeLast, DecidedIs};
 use law::Claim;
 use lock::figures::limit;
 use lock::figures::preconditions;
@@ -19,6 +21,7 @@ use lock::method::TABLE;
 use lock::method::is_reading;
 use lock::method::others;
 use lock::method::own_bit;
+use lock::method::without;
 use lock::step::add_part;
 use lock::step::bars;
 use lock::step::cost;
@@ -40,24 +43,41 @@ pub struct Together {
     pub methods: u64,
 }
 
-pub fn taken_together(s: &[u8]) -> Together
+// With the last of them, by what those before it come to.
+pub fn with_last(s: &[u8], adds: u64, methods: u64) -> Together
     requires { ⌜ length (now s) ≡ 768 ⌝ }
     requires { ⌜ Good (decode (now s)) ⌝ }
+    requires { ⌜ BeforeLast adds methods (decode (now s)) ⌝ }
+    requires { ⌜ adds ≤ 17179869184 ⌝ }
     ensures { λ r. ⌜ r .adds ≡ sumOf addOf (activesIn (decode (now (s .entry)))) ⌝ }
     ensures { λ r. ⌜ r .methods ≡ methodsOf (activesIn (decode (now (s .entry)))) ⌝ }
-    ensures { λ r. ⌜ r .adds ≤ 17179869184 ⌝ }
+    ensures { λ r. ⌜ r .adds ≤ adds + 2147483648 ⌝ }
 {
     let n = word_at(s, 8) as usize;
-    let mut adds: u64 = 0;
-    let mut methods: u64 = 0;
-    let mut i: usize = 0;
-    while i < n {
-        let x = active_at(s, i);
-        adds = adds + add_part(x);
-        methods = methods | own_bit(x.method);
-        i += 1;
+    let x = active_at(s, n - 1);
+    Together {
+        adds: adds + add_part(x),
+        methods: methods | own_bit(x.method),
     }
-    Together { adds, methods }
+}
+
+// Without the one at a place, by what all come to and the methods that more than one has.
+pub fn without_one(s: &[u8], at: usize, adds: u64, methods: u64, twice: u64) -> Together
+    requires { ⌜ length (now s) ≡ 768 ⌝ }
+    requires { ⌜ Good (decode (now s)) ⌝ }
+    requires { ⌜ at < decode (now s) .actives ⌝ }
+    requires { ⌜ All HasMethod (activesIn (decode (now s))) ⌝ }
+    requires { ⌜ adds ≡ sumOf addOf (activesIn (decode (now s))) ⌝ }
+    requires { ⌜ methods ≡ methodsOf (activesIn (decode (now s))) ⌝ }
+    requires { ⌜ twice ≡ twiceOf (activesIn (decode (now s))) ⌝ }
+    ensures { λ r. ⌜ r .adds ≡ sumOf addOf (removeAt at (activesIn (decode (now (s .entry))))) ⌝ }
+    ensures { λ r. ⌜ r .methods ≡ methodsOf (removeAt at (activesIn (decode (now (s .entry))))) ⌝ }
+{
+    let x = active_at(s, at);
+    Together {
+        adds: adds - add_part(x),
+        methods: without(methods, twice, x.method),
+    }
 }
 
 // Whether one of the first waiting claims bars c.

@@ -4,25 +4,31 @@ use mathlib.Core.Bool.{Bool, true, false}
 use mathlib.Core.List.{List, [], _∷_, _++_, map}
 use mathlib.Core.Path.{_≡_, refl, sym, ap, _∙_}
 use native.Mathlib.Omega.{arith}
-use borrow.Author.Tests.{eqb-false}
-use lib.ListN.{length, take, drop, set, length-append}
+use borrow.Author.Tests.{eqb-true, eqb-false}
+use lib.Bits.{bitOr}
+use lib.ListN.{length, take, drop, set, getD, length-append}
 use lib.Dec.{eqb}
 use lib.Seq.{take-take}
 use Rattle.num.specs.Runs.{splice}
 use Rattle.law.specs.declared.Attr.{Attr}
 use Rattle.law.specs.declared.Claim.{Claim}
+use Rattle.law.specs.Base.{sumOf}
 use Rattle.law.specs.Types.{mostError, Attribute, Figures, attr, Core, Item as LawItem, Disk as LawDisk}
 use Rattle.law.specs.Entries.{kindOf}
 use Rattle.law.specs.Lists.{All, all-say, all-right}
 use Rattle.law.specs.Fields.{ValueFits}
-use Rattle.law.specs.Granting.{withAmount, noteBy, total, granted, grant, grantItem}
+use Rattle.law.specs.Granting.{withAmount, noteBy, total, granted, raised, asGranted, grant, grantItem}
 use Rattle.law.specs.Calls.{Passing, turn, passOver, pass}
 use Rattle.law.specs.Sound.{Passes, Sound}
 use Rattle.law.specs.DiskType.{diskTable}
 use Rattle.law.specs.GrantLaws.{MayGrant}
 use Rattle.law.specs.ProperLaws.{proper-kind, disk-proper}
 use Rattle.law.specs.AttributeLaws.{note-same}
+use Rattle.claims.specs.Rows.{Row, noClaim}
 use Rattle.claims.specs.RowLaws.{row-length, left-on, left-end, store-row, store-front, store-left}
+use Rattle.lock.specs.Masks.{methodBit, methodsOf}
+use Rattle.lock.specs.Pairs.{addOf}
+use Rattle.lock.proofs.LeftLaws.{methods-last, methods-same, sum-last, adds-same}
 use Rattle.rules.specs.declared.disk.Disk.{Disk}
 use Rattle.rules.specs.Disks.{figuresIn, coreIn, diskOf, Good, DiskIs, grantOf, TellFits}
 use Rattle.rules.proofs.RangeLaws.{limit-most, error-most, limit-range, tell-range}
@@ -30,7 +36,7 @@ use Rattle.answer.specs.declared.Answer.{Answer}
 use Rattle.answer.specs.Answers.{itemBytes, answerBytes, Behind}
 use Rattle.answer.specs.AnswerLaws.{one-more}
 use Rattle.place.specs.Holding.{withWaiting}
-use Rattle.judge.specs.Decisions.{activesIn}
+use Rattle.judge.specs.Decisions.{activesIn, BeforeLast}
 use Rattle.pass.specs.Turns.{grantAnswer, tried, front, TurnFits, TurnBy, Turned, closedAt, passedOf}
 
 -- ---- what is told and counted
@@ -235,6 +241,48 @@ module _ {d e : Disk} {answers : List LawItem} {i k : ℕ} (g : Going d e answer
       ap (passOver diskTable (passing (coreIn e) (front e k) answers)) (sym (left-end (g .good .waiting) i (omega (arith, g .waits))))
       ∙ g .goes
 
+-- ---- what the active claims come to
+
+-- The last of a row.
+row-last : {ws : List Claim} {n : ℕ} → Row ws n → (xs : List Claim) (y : Claim) → take n ws ≡ xs ++ (y ∷ []) →
+    (0 < n) × (getD ws (n - 1) noClaim ≡ y)
+row-last {ws} {n} row xs y e =
+    let size : n ≡ length xs + 1 = sym (row-length row) ∙ ap length e ∙ length-append xs (y ∷ []) in
+    let place : n - 1 ≡ length xs = omega (arith, size) in (
+      omega (arith, size),
+      ap (λ (j : ℕ). getD ws j noClaim) place
+          ∙ ap (λ (l : List Claim). getD l 0 noClaim)
+          (sym (left-on row (length xs) (omega (arith, size))) ∙ ap (drop (length xs)) e ∙ past xs),
+    )
+  where
+    past : (xs : List Claim) → drop (length xs) (xs ++ (y ∷ [])) ≡ y ∷ []
+    past [] = refl
+    past (x ∷ xs) = past xs
+
+-- After a grant: the claim granted is the last, and the others, raised or not, have the methods and values that they had.
+module _ (e r : Disk) (c : Claim) (w : DiskIs r (grantOf (diskOf e) c)) where
+  abbrev others : List Claim
+  others = map (raised diskTable (coreIn e) c) (activesIn e)
+
+  abbrev own : Claim
+  own = asGranted diskTable (coreIn e) c
+
+  actives-are : activesIn r ≡ others ++ (own ∷ [])
+  unfolding grant
+  actives-are = ap (λ (x : LawDisk). x .core .active) (w .is)
+
+  grant-grows : {adds methods : ℕ} → adds ≡ sumOf addOf (activesIn e) → methods ≡ methodsOf (activesIn e) → BeforeLast adds methods r
+  grant-grows {adds} {methods} a m =
+      let l = row-last (w .good .active) others own actives-are in (
+        l .0,
+        ap (sumOf addOf) actives-are
+            ∙ sum-last addOf others own
+            ∙ (λ j. (adds-same (raised diskTable (coreIn e) c) (λ x. refl) (λ x. refl) (activesIn e) ∙ sym a) j + addOf (sym (l .1) j)),
+        ap methodsOf actives-are
+            ∙ methods-last others own
+            ∙ (λ j. bitOr ((methods-same (raised diskTable (coreIn e) c) (λ x. refl) (activesIn e) ∙ sym m) j) (methodBit (sym (l .1) j .method))),
+      )
+
 -- ---- the answer buffer
 
 -- One more grant behind the call's own answer.
@@ -283,6 +331,15 @@ module _ {d e : Disk} {a b : List ℕ} {i k : ℕ} (g : Run d e a b i k) (h : i 
       go false q t =
           rw (t .0)
           (record { answers = g .answers; going = going-wait (g .going) h q (t .1); behind = rw (t .2) (g .behind) })
+
+  -- A turn after which no more wait has granted its claim, which stands last; the others come to what they came to.
+  pub turn-grows : (r : Disk) (c : List ℕ) (n : ℕ) → Turned e r b c i k n → eqb n k ≡ true → {adds methods : ℕ} →
+      adds ≡ sumOf addOf (activesIn e) → methods ≡ methodsOf (activesIn e) → BeforeLast adds methods r
+  turn-grows r c n t q {adds} {methods} a m = go (granted diskTable (coreIn e) (front e k) (tried e i)) t
+    where
+      go : (v : Bool) → TurnBy v e r b c i k n → BeforeLast adds methods r
+      go true t = grant-grows e r (tried e i) (t .1) a m
+      go false t = absurd (omega (arith, t .0, eqb-true n k q))
 
   -- A turn after which one more waits leaves the active claims.
   pub turn-keeps : (r : Disk) (c : List ℕ) (n : ℕ) → Turned e r b c i k n → eqb n k ≡ false → activesIn r ≡ activesIn e

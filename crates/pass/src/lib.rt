@@ -17,12 +17,12 @@ ghost use Rattle.part.specs.Layout.{decode, decodes};
 ghost use Rattle.part.specs.Held.{held, partFor};
 ghost use Rattle.answer.specs.Answers.{OwnOnly, Behind};
 ghost use Rattle.place.specs.Holding.{Holds};
-ghost use Rattle.judge.specs.Decisions.{activesIn};
-ghost use Rattle.pass.specs.Turns.{grantAnswer, tried, keptAt, TurnFits, Turned, closedAt, passedOf};
+ghost use Rattle.judge.specs.Decisions.{activesIn, BeforeLast};
+ghost use Rattle.pass.specs.Turns.{grantAnswer, keptAt, TurnFits, Turned, closedAt, passedOf};
 use answer::put_grant;
 use judge::step::Together;
 use judge::step::decide;
-use judge::step::taken_together;
+use judge::step::with_last;
 use law::Claim;
 use lock::figures::told;
 use lock::method::never;
@@ -39,13 +39,12 @@ use place::grant::grant;
 use slots::clear_from;
 use slots::put_slot;
 
-// The claim c, the i-th waiting one, waits on in the k-th place, where it may stand already. How many wait then.
-fn keep(s: &mut [u8], i: usize, k: usize, c: Claim) -> usize
+// The i-th waiting claim waits on in the k-th place, where it may stand already. How many wait then.
+fn keep(s: &mut [u8], i: usize, k: usize) -> usize
     requires { ⌜ length (now s) ≡ 768 ⌝ }
     requires { ⌜ Holds (now s) (decode (now s)) ⌝ }
     requires { ⌜ i < 8 ⌝ }
     requires { ⌜ k ≤ i ⌝ }
-    requires { ⌜ c ≡ tried (decode (now s)) i ⌝ }
     ensures { λ r. ⌜ r ≡ k + 1 ⌝ }
     ensures { λ _. ⌜ Holds (now (s .exit)) (decode (now (s .exit))) ⌝ }
     ensures { λ _. ⌜ decode (now (s .exit)) ≡ keptAt (decode (now (s .entry))) i k ⌝ }
@@ -53,12 +52,14 @@ fn keep(s: &mut [u8], i: usize, k: usize, c: Claim) -> usize
     if k == i {
         return k + 1;
     }
+    let c = waiting_at(s, i);
     put_slot(&mut s[416..768], k, c);
     k + 1
 }
 
 // The i-th waiting claim, of which k ahead still wait: it is granted, and its grant stands behind those of the i - k others;
-// or it waits on in the k-th place. How many wait then. With eight active, or one active whose entry is N, it waits undecided.
+// or it waits on in the k-th place. How many wait then. With eight active, or one active whose entry is N, it waits undecided,
+// and only its method is looked at.
 fn turn(s: &mut [u8], answer: &mut [u8], i: usize, k: usize, adds: u64, methods: u64) -> usize
     requires { ⌜ length (now s) ≡ 768 ⌝ }
     requires { ⌜ Holds (now s) (decode (now s)) ⌝ }
@@ -73,10 +74,11 @@ fn turn(s: &mut [u8], answer: &mut [u8], i: usize, k: usize, adds: u64, methods:
     ensures { λ _. ⌜ Holds (now (s .exit)) (decode (now (s .exit))) ⌝ }
     ensures { λ r. ⌜ Turned (decode (now (s .entry))) (decode (now (s .exit))) (now (answer .entry)) (now (answer .exit)) i k r ⌝ }
 {
-    let c = waiting_at(s, i);
-    if either(8 <= word_at(s, 8), share(methods, never(c.method))) {
-        return keep(s, i, k, c);
+    let m = waiting_at(s, i).method;
+    if either(8 <= word_at(s, 8), share(methods, never(m))) {
+        return keep(s, i, k);
     }
+    let c = waiting_at(s, i);
     let v = decide(s, k, c, word_at(s, 0), adds, methods);
     if v.ok {
         let z = narrow(told(c.method, used_at(s), promised_at(s), code_at(s)));
@@ -85,7 +87,7 @@ fn turn(s: &mut [u8], answer: &mut [u8], i: usize, k: usize, adds: u64, methods:
         put_grant(answer, i - k, c.ticket, z, total);
         return k;
     }
-    keep(s, i, k, c)
+    keep(s, i, k)
 }
 
 // The first k of the n waiting claims wait on; the places behind them are cleared.
@@ -102,54 +104,40 @@ fn close(s: &mut [u8], k: usize, n: usize)
     put_word(s, 12, k as u32);
 }
 
-// What the active claims come to, where one of n waits; where none does, nothing is looked at.
-fn for_waiting(s: &[u8], n: usize) -> Together
-    requires { ⌜ length (now s) ≡ 768 ⌝ }
-    requires { ⌜ Good (decode (now s)) ⌝ }
-    ensures { λ r. ⌜ (0 < n → r .adds ≡ sumOf addOf (activesIn (decode (now (s .entry))))) ⌝ }
-    ensures { λ r. ⌜ (0 < n → r .methods ≡ methodsOf (activesIn (decode (now (s .entry))))) ⌝ }
-    ensures { λ r. ⌜ r .adds ≤ 17179869184 ⌝ }
-{
-    if n == 0 {
-        return Together {
-            adds: 0,
-            methods: 0,
-        };
-    }
-    taken_together(s)
-}
-
-// The same after a turn: anew where a claim was granted, else as it was.
+// What the active claims come to after a turn: with the last one where a claim was granted, else as before.
 fn after_turn(s: &[u8], granted: bool, adds: u64, methods: u64) -> Together
     requires { ⌜ length (now s) ≡ 768 ⌝ }
     requires { ⌜ Good (decode (now s)) ⌝ }
     requires { ⌜ (granted ≡ false → adds ≡ sumOf addOf (activesIn (decode (now s)))) ⌝ }
     requires { ⌜ (granted ≡ false → methods ≡ methodsOf (activesIn (decode (now s)))) ⌝ }
+    requires { ⌜ (granted ≡ true → BeforeLast adds methods (decode (now s))) ⌝ }
     requires { ⌜ adds ≤ 17179869184 ⌝ }
     ensures { λ r. ⌜ r .adds ≡ sumOf addOf (activesIn (decode (now (s .entry)))) ⌝ }
     ensures { λ r. ⌜ r .methods ≡ methodsOf (activesIn (decode (now (s .entry)))) ⌝ }
-    ensures { λ r. ⌜ r .adds ≤ 17179869184 ⌝ }
+    ensures { λ r. ⌜ r .adds ≤ adds + 2147483648 ⌝ }
 {
     if granted {
-        return taken_together(s);
+        return with_last(s, adds, methods);
     }
     Together { adds, methods }
 }
 
-// The pass, behind the one answer in the buffer. Of the i claims looked at, k still wait and stand in front.
-pub fn pass(s: &mut [u8], answer: &mut [u8])
+// The pass, behind the one answer in the buffer, with what the active claims come to. Of the i claims looked at, k still wait and
+// stand in front.
+pub fn pass(s: &mut [u8], answer: &mut [u8], sum: u64, mask: u64)
     requires { ⌜ length (now s) ≡ 768 ⌝ }
     requires { ⌜ decodes (now s) ≡ true ⌝ }
     requires { ⌜ Sound diskTable (held (now s)) ⌝ }
     requires { ⌜ length (now answer) ≡ 144 ⌝ }
     requires { ⌜ OwnOnly (now answer) ⌝ }
+    requires { ⌜ sum ≡ sumOf addOf (held (now s) .core .active) ⌝ }
+    requires { ⌜ mask ≡ methodsOf (held (now s) .core .active) ⌝ }
     ensures { λ _. ⌜ now (s .exit) ≡ partFor (passedOf (held (now (s .entry)))) ⌝ }
     ensures { λ _. ⌜ Behind (now (answer .entry)) (map grantAnswer (lawPass diskTable (held (now (s .entry)) .core) (held (now (s .entry)) .waiting) .items)) (now (answer .exit)) ⌝ }
 {
     let n = word_at(s, 12) as usize;
-    let first = for_waiting(s, n);
-    let mut adds = first.adds;
-    let mut methods = first.methods;
+    let mut adds = sum;
+    let mut methods = mask;
     let mut i: usize = 0;
     let mut k: usize = 0;
     while i < n {

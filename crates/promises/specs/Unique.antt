@@ -70,14 +70,16 @@ decided-unique {ok} {yes} {n} {m} x y = (unique (x .says) (y .says), total ok re
 -- ---- the soundness test
 
 -- Whether a disk is sound, and what is handed on of it.
-pub seen-unique : (d : LawDisk) {ok yes b : Bool} {n m k l : ℕ} →
-    ok ≡ b → (ok ≡ true → SeenIs n k d) → (ok ≡ false → Nothing n k) →
-    yes ≡ b → (yes ≡ true → SeenIs m l d) → (yes ≡ false → Nothing m l) → (ok ≡ yes) × (n ≡ m) × (k ≡ l)
-seen-unique d {ok} {yes} {b} {n} {m} {k} {l} e f g h i j = (unique e h, handed ok refl .0, handed ok refl .1)
+pub seen-unique : (d : LawDisk) {ok yes b : Bool} {n m k l t u : ℕ} →
+    ok ≡ b → (ok ≡ true → SeenIs n k t d) → (ok ≡ false → Nothing n k t) →
+    yes ≡ b → (yes ≡ true → SeenIs m l u d) → (yes ≡ false → Nothing m l u) → (ok ≡ yes) × (n ≡ m) × (k ≡ l) × (t ≡ u)
+seen-unique d {ok} {yes} {b} {n} {m} {k} {l} {t} {u} e f g h i j =
+    let r = handed ok refl in
+    (unique e h, r .0, r .1, r .2)
   where
-    handed : (v : Bool) → ok ≡ v → (n ≡ m) × (k ≡ l)
-    handed true q = let r = unique h e ∙ q in (unique (f q .0) (i r .0), unique (f q .1) (i r .1))
-    handed false q = let r = unique h e ∙ q in (unique (g q .0) (j r .0), unique (g q .1) (j r .1))
+    handed : (v : Bool) → ok ≡ v → (n ≡ m) × (k ≡ l) × (t ≡ u)
+    handed true q = let r = unique h e ∙ q in (unique (f q .0) (i r .0), unique (f q .1) (i r .1), unique (f q .2) (i r .2))
+    handed false q = let r = unique h e ∙ q in (unique (g q .0) (j r .0), unique (g q .1) (j r .1), unique (g q .2) (j r .2))
 
 -- ---- bytes that are said through what they hold
 

@@ -41,6 +41,9 @@ returns c =
     let k = c .before .before in
     (refl, (k .pre .1 .0, stays (disk k) (k .args .i) (k .args .k) (c .if1 .taken)))
 
+waiting-at-requires : tie.Need-waiting-at-requires
+waiting-at-requires c κs = (search needs, c .before .before .before .pre .1 .1 .0)
+
 sub-put-slot : tie.Need-sub-put-slot
 sub-put-slot c = search needs
 
@@ -52,8 +55,8 @@ part-put-slot-end c = search needs
 
 put-slot-requires : tie.Need-put-slot-requires
 put-slot-requires c κs =
-    let k = c .before .before .before in
-    (search needs, (waiting-kept (k .pre .1 .0), omega (arith, k .pre .1 .1 .0, k .pre .1 .1 .1 .0)))
+    let k = c .before .before .before .before .before in
+    (search needs, (waiting-kept (k .pre .1 .0), omega (arith, k .pre .1 .1 .0, k .pre .1 .1 .1)))
 
 add-result-2 : tie.Need-add-result-2
 add-result-2 c = search needs
@@ -63,12 +66,12 @@ same-length c = search needs
 
 returns-2 : tie.Need-returns-2
 returns-2 c =
-    let k = c .before .before .before .before .before .before in
+    let k = c .before .before .before .before .before .before .before .before in
     let a = k .args in
     let h = k .pre .1 .0 in
     let p = c .before .before .put-slot in
     let put : slots 8 (p .last .0) ≡ set (disk k .waiting) (a .k) (tried (disk k) (a .i)) =
-    p .ensures .1 ∙ (λ j. set (waiting-slots h j) (a .k) (k .pre .1 .1 .1 .1 j)) in
+    p .ensures .1 ∙ (λ j. set (waiting-slots h j) (a .k) (c .before .before .before .before .waiting-at .ensures j)) in
     let held : Holds (putMid 416 352 (a .s .now) (p .last .0)) (keptAt (disk k) (a .i) (a .k)) =
     subst (λ (r : List ℕ). Holds r (keptAt (disk k) (a .i) (a .k)))
     (sym (mid-splice 416 768 (a .s .now) (p .last .0) (omega arith) (omega (arith, k .pre .0)) (long (c .before .before))))
@@ -81,6 +84,7 @@ keep-spec =
     (tie.spec
     add-result
     returns
+    waiting-at-requires
     sub-put-slot
     part-put-slot-start
     part-put-slot-end

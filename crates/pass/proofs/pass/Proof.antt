@@ -1,6 +1,6 @@
--- What is left of the pass, over the disk so far, is the pass of the law: each turn keeps it, by PassLaws. What the active claims
--- come to is at hand where a claim is left to try.
-use Prim.Native.Nat.{ℕ, _-_, _≤_, _<_}
+-- What is left of the pass, over the disk so far, is the pass of the law: each turn keeps it, by PassLaws; and what the active claims
+-- come to is kept up to date.
+use Prim.Native.Nat.{ℕ, _+_, _-_, _*_, _≤_, _<_}
 use mathlib.Core.List.{List}
 use mathlib.Core.Path.{_≡_, sym, ap, _∙_, subst}
 use native.Mathlib.Omega.{arith}
@@ -15,24 +15,25 @@ use Rattle.rules.specs.Disks.{DiskIs}
 use Rattle.part.specs.Layout.{decode}
 use Rattle.part.specs.LayoutLaws.{decode-good}
 use Rattle.judge.specs.Decisions.{activesIn}
+use Rattle.judge.proofs.DecideLaws.{adds-most}
 use Rattle.place.specs.Holding.{Holds}
 use Rattle.place.specs.HoldingLaws.{decodes-holds, holds-part}
-use Rattle.pass.proofs.PassLaws.{Run, kept, turn-fits, turn-keeps, run-start, run-turn, run-disk, run-behind}
+use Rattle.pass.proofs.PassLaws.{Run, kept, turn-fits, turn-grows, turn-keeps, run-start, run-turn, run-disk, run-behind}
 use Rattle.pass.proofs.pass.Statement.{statement}
 use Rattle.pass.proofs.pass.Tie as tie
 
 abbrev Inv-loop : tie.InvT-loop
-Inv-loop s₀ answer₀ n adds₀ methods₀ i₀ k₀ s answer adds methods i k =
+Inv-loop s₀ answer₀ sum mask n adds₀ methods₀ i₀ k₀ s answer adds methods i k =
     (length s ≡ 768)
     × (length answer ≡ 144)
     × Holds s (decode s)
     × Run (decode s₀) (decode s) answer₀ answer i k
-    × (adds ≤ 17179869184)
-    × (0 < n → adds ≡ sumOf addOf (activesIn (decode s)))
-    × (0 < n → methods ≡ methodsOf (activesIn (decode s)))
+    × (adds ≤ 1000000000 + i * 2147483648)
+    × (adds ≡ sumOf addOf (activesIn (decode s)))
+    × (methods ≡ methodsOf (activesIn (decode s)))
 
 abbrev μ-loop : tie.MeasureT-loop
-μ-loop s₀ answer₀ n adds₀ methods₀ i₀ k₀ s answer adds methods i k = n - i
+μ-loop s₀ answer₀ sum mask n adds₀ methods₀ i₀ k₀ s answer adds methods i k = n - i
 
 -- The disk of the part.
 abbrev disk : tie.Start Inv-loop μ-loop → Disk
@@ -49,43 +50,57 @@ word-at-requires c κs = search needs
 cast-n : tie.Need-cast-n Inv-loop μ-loop
 cast-n c = search needs
 
-for-waiting-requires : tie.Need-for-waiting-requires Inv-loop μ-loop
-for-waiting-requires c κs =
-    let k = c .before .before .before .before .before in
-    (k .pre .0, decode-good (k .args .s .now) (k .pre .0) (k .pre .1 .0))
-
 loop-holds : tie.Need-loop-holds Inv-loop μ-loop
 loop-holds c =
-    let k = c .before .before .before .before .before .before in
+    let k = c .before .before .before .before in
     let s = k .args .s .now in
-    let f = c .for-waiting .ensures in (
+    let sound = k .pre .1 .1 .0 in
+    let sum = k .pre .1 .1 .1 .1 .1 .0 in (
       k .pre .0,
       k .pre .1 .1 .1 .0,
-      decodes-holds s (λ i. c .before .before .before .before .before .slice-known .given i .fits) (k .pre .0) (k .pre .1 .0),
-      run-start (disk k) (k .args .answer .now) (decode-good s (k .pre .0) (k .pre .1 .0)) (k .pre .1 .1 .0),
-      f .1 .1,
-      f .0,
-      f .1 .0,
+      decodes-holds s (λ i. c .before .before .before .slice-known .given i .fits) (k .pre .0) (k .pre .1 .0),
+      run-start (disk k) (k .args .answer .now) (decode-good s (k .pre .0) (k .pre .1 .0)) sound,
+      omega (arith, sum, adds-most (disk k) sound),
+      sum,
+      k .pre .1 .1 .1 .1 .1 .1,
     )
+
+-- In a turn not all have been looked at.
+more : (t : tie.In-loop Inv-loop μ-loop) → t .before .loop .i < disk (t .before .before .before .before .before .before) .waitings
+more t = subst (λ (m : ℕ). t .before .loop .i < m) (count (t .before .before)) (t .loop-test .taken)
 
 turn-requires : tie.Need-turn-requires Inv-loop μ-loop
 turn-requires c κs =
     let w = c .before .before .before in
     let l = w .loop .inv in
     let g = l .3 .going in
-    let some : 0 < c .before .before .before .before .before .before .word-at .result = omega (arith, c .before .before .loop-test .taken) in
-    let h = subst (λ (m : ℕ). w .loop .i < m) (count (c .before .before .before .before .before .before)) (c .before .before .loop-test .taken) in
-    (l .0, (l .2, (g .good, (turn-fits g h, (omega (arith, h, g .waits), (kept g, (l .1, (l .5 some, (l .6 some, l .4)))))))))
+    let h = more (c .before .before) in
+    (l .0, (l .2, (g .good, (turn-fits g h, (omega (arith, h, g .waits), (kept g, (l .1, (l .5, (l .6, omega (arith, l .4, h, g .waits, g .good .waiting .few))))))))))
 
 after-turn-requires : tie.Need-after-turn-requires Inv-loop μ-loop
 after-turn-requires c κs =
     let w = c .before .before .before .before .before .before .before .before .before in
     let l = w .loop .inv in
+    let g = l .3 .going in
     let t = c .before .before .before .before .before .turn in
-    let e = t .ensures in
-    let some : 0 < c .before .before .before .before .before .before .before .before .before .before .before .before .word-at .result = omega (arith, c .before .before .before .before .before .before .before .before .loop-test .taken) in
-    let h = subst (λ (m : ℕ). w .loop .i < m) (count (c .before .before .before .before .before .before .before .before .before .before .before .before)) (c .before .before .before .before .before .before .before .before .loop-test .taken) in
-    (search needs, (run-turn (l .3) h (e .1) .going .good, ((λ q. l .5 some ∙ ap (sumOf addOf) (sym (turn-keeps (l .3) h (decode (t .last .0)) (t .last .1 .0) (t .result) (e .1) q))), ((λ q. l .6 some ∙ ap methodsOf (sym (turn-keeps (l .3) h (decode (t .last .0)) (t .last .1 .0) (t .result) (e .1) q))), l .4))))
+    let r = decode (t .last .0) in
+    let h = more (c .before .before .before .before .before .before .before .before) in
+    let e = t .ensures .1 in (
+      search needs,
+      (
+        run-turn (l .3) h e .going .good,
+        (
+          (λ q. l .5 ∙ ap (sumOf addOf) (sym (turn-keeps (l .3) h r (t .last .1 .0) (t .result) e q))),
+          (
+            (λ q. l .6 ∙ ap methodsOf (sym (turn-keeps (l .3) h r (t .last .1 .0) (t .result) e q))),
+            (
+              (λ q. turn-grows (l .3) h r (t .last .1 .0) (t .result) e q (l .5) (l .6)),
+              omega (arith, l .4, h, g .waits, g .good .waiting .few),
+            ),
+          ),
+        ),
+      ),
+    )
 
 add-i : tie.Need-add-i Inv-loop μ-loop
 add-i c = search needs
@@ -99,14 +114,14 @@ loop-again c =
     let l = w .loop .inv in
     let e = c .before .before .before .before .before .before .turn .ensures in
     let t = c .after-turn .ensures in
-    let h = subst (λ (m : ℕ). w .loop .i < m) (count (c .before .before .before .before .before .before .before .before .before .before .before .before .before)) (c .before .before .before .before .before .before .before .before .before .loop-test .taken) in
-    (search needs, search needs, e .0, run-turn (l .3) h (e .1), t .1 .1, (λ some. t .0), (λ some. t .1 .0))
+    let h = more (c .before .before .before .before .before .before .before .before .before) in
+    (search needs, search needs, e .0, run-turn (l .3) h (e .1), omega (arith, l .4, t .1 .1), t .0, t .1 .0)
 
 close-requires : tie.Need-close-requires Inv-loop μ-loop
 close-requires c κs =
     let l = c .before .before .loop .inv in
     let g = l .3 .going in
-    let k = count (c .before .before .before .before .before) in
+    let k = count (c .before .before .before) in
     (l .0, (l .2, (g .good, (omega (arith, kept g, g .looked, k), k ∙ sym (g .waits)))))
 
 same-length : tie.Need-same-length Inv-loop μ-loop
@@ -120,7 +135,7 @@ returns c =
     let w = c .before .before .before .before .before in
     let l = w .loop .inv in
     let e = c .before .before .close .ensures in
-    let h = subst (λ (m : ℕ). m ≤ w .loop .i) (count (c .before .before .before .before .before .before .before .before)) (c .before .before .before .before .loop-test .left) in
+    let h = subst (λ (m : ℕ). m ≤ w .loop .i) (count (c .before .before .before .before .before .before)) (c .before .before .before .before .loop-test .left) in
     (holds-part (e .0) (subst (DiskIs _) (run-disk (l .3) h) (e .1)), run-behind (l .3) h)
 
 pub pass-spec : {M : Type 1} → statement M
@@ -131,7 +146,6 @@ pass-spec =
     μ-loop
     word-at-requires
     cast-n
-    for-waiting-requires
     loop-holds
     turn-requires
     after-turn-requires

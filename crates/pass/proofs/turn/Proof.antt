@@ -43,15 +43,15 @@ place : (k : tie.Start) → k .args .i < 8
 place k = omega (arith, k .pre .1 .1 .1 .1 .0, k .pre .1 .1 .0 .waiting .few)
 
 -- The decision on the claim that is tried.
-verdict : (v : tie.After-decide) → let k = v .before .before .before .before .before .before .before .before .before .before .before .before .before in
+verdict : (v : tie.After-decide) → let k = v .before .before .before .before .before .before .before .before .before .before .before .before .before .before .before in
     DecidedIs (v .decide .result .ok) (v .decide .result .total) (coreIn (disk k)) (front (disk k) (k .args .k)) (tried (disk k) (k .args .i))
 unfolding decode
-verdict v = rw (v .before .before .before .before .before .before .before .before .before .waiting-at .ensures, v .before .word-at2 .ensures) at (v .decide .ensures)
+verdict v = rw (v .before .before .before .waiting-at2 .ensures, v .before .word-at2 .ensures) at (v .decide .ensures)
 
 -- It is granted.
 module _ (b : tie.Then2) where
   abbrev start : tie.Start
-  start = b .before .before .before .before .before .before .before .before .before .before .before .before .before .before
+  start = b .before .before .before .before .before .before .before .before .before .before .before .before .before .before .before .before
 
   abbrev d : Disk
   d = disk start
@@ -72,12 +72,12 @@ module _ (b : tie.Then2) where
   few = omega (arith, sum, total-most d (start .args .i) (start .pre .1 .1 .1 .0) may)
 
 -- What it is told.
-told-is : (t : tie.After-told) → t .told .result ≡ tellBy (figuresIn (disk (t .before .before .before .before .before .before .before .before .before .before .before .before .before .before .before .before .before .before .before .before .before))) (kindOf diskTable (tried (disk (t .before .before .before .before .before .before .before .before .before .before .before .before .before .before .before .before .before .before .before .before .before)) (t .before .before .before .before .before .before .before .before .before .before .before .before .before .before .before .before .before .before .before .before .before .args .i)))
+told-is : (t : tie.After-told) → t .told .result ≡ tellBy (figuresIn (disk (t .before .before .before .before .before .before .before .before .before .before .before .before .before .before .before .before .before .before .before .before .before .before .before))) (kindOf diskTable (tried (disk (t .before .before .before .before .before .before .before .before .before .before .before .before .before .before .before .before .before .before .before .before .before .before .before)) (t .before .before .before .before .before .before .before .before .before .before .before .before .before .before .before .before .before .before .before .before .before .before .before .args .i)))
 told-is t =
     t .told .ensures .0
-    ∙ (λ j. tellBy (figuresOf (t .before .before .before .before .before .used-at .ensures j) (t .before .before .before .promised-at .ensures j) (t .before .code-at .ensures j)) (kindAt diskTable (t .before .before .before .before .before .before .before .before .before .before .before .before .before .before .before .before .before .waiting-at .ensures j .method)))
+    ∙ (λ j. tellBy (figuresOf (t .before .before .before .before .before .used-at .ensures j) (t .before .before .before .promised-at .ensures j) (t .before .code-at .ensures j)) (kindAt diskTable (t .before .before .before .before .before .before .before .before .before .before .before .waiting-at2 .ensures j .method)))
 
--- The i-th claim is what is read, and what is kept.
+-- The i-th claim is what is read.
 read-is : (w : tie.After-waiting-at) → w .waiting-at .result ≡ tried (disk (w .before .before .before .before)) (w .before .before .before .before .args .i)
 read-is w = w .waiting-at .ensures
 
@@ -96,12 +96,10 @@ share-requires c κs = tt
 either-requires : tie.Need-either-requires
 either-requires c κs = tt
 
--- What `keep` wants: the claim read is the i-th.
 keep-requires : tie.Need-keep-requires
 keep-requires c κs =
-    let w = c .before .before .before .before .before .before .before in
-    let k = w .before .before .before .before in
-    (k .pre .0, (k .pre .1 .0, (place k, (k .pre .1 .1 .1 .1 .1 .0, read-is w))))
+    let k = c .before .before .before .before .before .before .before .before .before .before .before in
+    (k .pre .0, (k .pre .1 .0, (place k, k .pre .1 .1 .1 .1 .1 .0)))
 
 -- With eight active, or one whose entry is N, it is not granted.
 stuck : (t : tie.Then1) →
@@ -140,12 +138,15 @@ returns c =
           (sym (stuck (c .before .before .before .before))) (e .0, e .1 .1, refl),
     )
 
+waiting-at-requires-2 : tie.Need-waiting-at-requires-2
+waiting-at-requires-2 c κs = (search needs, place (c .before .before .before .before .before .before .before .before .before .before .before))
+
 word-at-requires-2 : tie.Need-word-at-requires-2
 word-at-requires-2 c κs = search needs
 
 decide-requires : tie.Need-decide-requires
 decide-requires c κs =
-    let k = c .before .before .before .before .before .before .before .before .before .before .before .before in
+    let k = c .before .before .before .before .before .before .before .before .before .before .before .before .before .before in
     let p = k .pre .1 .1 .1 .1 .1 .1 in
     (k .pre .0, (k .pre .1 .1 .0, (omega (arith, k .pre .1 .1 .1 .1 .1 .0, place k), (p .1 .0, (p .1 .1 .0, p .1 .1 .1)))))
 
@@ -153,17 +154,17 @@ used-at-requires : tie.Need-used-at-requires
 used-at-requires c κs = search needs
 
 promised-at-requires : tie.Need-promised-at-requires
-promised-at-requires c κs = search needs
+promised-at-requires c κs = c .before .before .before .before .before .before .before .before .before .before .before .before .before .before .before .before .before .before .before .pre .0
 
 code-at-requires : tie.Need-code-at-requires
-code-at-requires c κs = c .before .before .before .before .before .before .before .before .before .before .before .before .before .before .before .before .before .before .before .pre .0
+code-at-requires c κs = c .before .before .before .before .before .before .before .before .before .before .before .before .before .before .before .before .before .before .before .before .before .pre .0
 
 told-requires : tie.Need-told-requires
 told-requires c κs = search needs
 
 narrow-requires : tie.Need-narrow-requires
 narrow-requires c κs =
-    let k = c .before .before .before .before .before .before .before .before .before .before .before .before .before .before .before .before .before .before .before .before .before in
+    let k = c .before .before .before .before .before .before .before .before .before .before .before .before .before .before .before .before .before .before .before .before .before .before .before in
     rw (toZ-ofZ (record { sfits = c .told .ok }), told-is c) (omega (arith, tell-fits (disk k) (k .args .i) (k .pre .1 .1 .1 .0)))
 
 cast-total : tie.Need-cast-total
@@ -172,8 +173,8 @@ cast-total c = record { fits = omega (arith, few (c .before .before .before .bef
 grant-requires : tie.Need-grant-requires
 grant-requires c κs =
     let b = c .before .before .before .before .before .before .before .before .before .before in
-    let k = c .before .before .before .before .before .before .before .before .before .before .before .before .before .before .before .before .before .before .before .before .before .before .before .before in
-    let e = c .before .before .before .before .before .before .before .before .before .before .before .before .before .before .before .before .before .before .before .before .waiting-at .ensures in (
+    let k = c .before .before .before .before .before .before .before .before .before .before .before .before .before .before .before .before .before .before .before .before .before .before .before .before .before .before in
+    let e = c .before .before .before .before .before .before .before .before .before .before .before .before .before .before .waiting-at2 .ensures in (
       k .pre .0,
       (
         k .pre .1 .0,
@@ -195,11 +196,11 @@ grant-requires c κs =
     )
 
 sub-put-grant : tie.Need-sub-put-grant
-sub-put-grant c = omega (arith, c .before .before .before .before .before .before .before .before .before .before .before .before .before .before .before .before .before .before .before .before .before .before .before .before .before .before .before .before .pre .1 .1 .1 .1 .1 .0)
+sub-put-grant c = omega (arith, c .before .before .before .before .before .before .before .before .before .before .before .before .before .before .before .before .before .before .before .before .before .before .before .before .before .before .before .before .before .before .pre .1 .1 .1 .1 .1 .0)
 
 put-grant-requires : tie.Need-put-grant-requires
 put-grant-requires c κs =
-    let k = c .before .before .before .before .before .before .before .before .before .before .before .before .before .before .before .before .before .before .before .before .before .before .before .before .before .before .before .before in
+    let k = c .before .before .before .before .before .before .before .before .before .before .before .before .before .before .before .before .before .before .before .before .before .before .before .before .before .before .before .before .before .before in
     (k .pre .1 .1 .1 .1 .1 .1 .0, omega (arith, place k))
 
 same-length-2 : tie.Need-same-length-2
@@ -211,10 +212,10 @@ same-length-3 c = search needs
 returns-2 : tie.Need-returns-2
 unfolding grantItem
 returns-2 c =
-    let k = c .before .before .before .before .before .before .before .before .before .before .before .before .before .before .before .before .before .before .before .before .before .before .before .before .before .before .before .before .before .before .before in
+    let k = c .before .before .before .before .before .before .before .before .before .before .before .before .before .before .before .before .before .before .before .before .before .before .before .before .before .before .before .before .before .before .before .before .before in
     let b = c .before .before .before .before .before .before .before .before .before .before .before .before .before .before .before .before .before in
     let a = k .args in
-    let e = c .before .before .before .before .before .before .before .before .before .before .before .before .before .before .before .before .before .before .before .before .before .before .before .before .before .before .before .waiting-at .ensures in
+    let e = c .before .before .before .before .before .before .before .before .before .before .before .before .before .before .before .before .before .before .before .before .before .waiting-at2 .ensures in
     let z =
     toZ-ofZ (record { sfits = c .before .before .before .before .before .before .before .before .before .narrow .ok })
     ∙ c .before .before .before .before .before .before .before .before .before .narrow .ensures
@@ -232,16 +233,15 @@ returns-2 c =
 
 keep-requires-2 : tie.Need-keep-requires-2
 keep-requires-2 c κs =
-    let w = c .before .before .before .before .before .before .before .before .before .before .before in
-    let k = w .before .before .before .before in
-    (k .pre .0, (k .pre .1 .0, (place k, (k .pre .1 .1 .1 .1 .1 .0, read-is w))))
+    let k = c .before .before .before .before .before .before .before .before .before .before .before .before .before .before .before .before .before in
+    (k .pre .0, (k .pre .1 .0, (place k, k .pre .1 .1 .1 .1 .1 .0)))
 
 same-length-4 : tie.Need-same-length-4
 same-length-4 c = search needs
 
 returns-3 : tie.Need-returns-3
 returns-3 c =
-    let k = c .before .before .before .before .before .before .before .before .before .before .before .before .before .before .before .before .before .before in
+    let k = c .before .before .before .before .before .before .before .before .before .before .before .before .before .before .before .before .before .before .before .before in
     let a = k .args in
     let e = c .before .before .keep2 .ensures in (
       e .1 .0,
@@ -261,6 +261,7 @@ turn-spec =
     keep-requires
     same-length
     returns
+    waiting-at-requires-2
     word-at-requires-2
     decide-requires
     used-at-requires

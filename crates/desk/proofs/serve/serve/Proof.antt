@@ -90,7 +90,7 @@ word-at-requires-2 c κs = search needs
 serve-release-requires : tie.Need-serve-release-requires
 serve-release-requires c κs =
     let s = c .before .before .before .before .before .before .before .before .before .before .before .before .before .before .before .before in
-    (s .pre .0, (whole (c .before .before .before .before .before .before .before .before .before .before), (says-sound diskTable (diskOf (decode (s .args .part .now))) .0 (holds (c .before .before .before .before .before .before)), s .pre .1 .1)))
+    (s .pre .0, (whole (c .before .before .before .before .before .before .before .before .before .before), (says-sound diskTable (diskOf (decode (s .args .part .now))) .0 (holds (c .before .before .before .before .before .before)), (s .pre .1 .1, c .before .before .before .before .before .before .before .before .is-sound .ensures .1 .0 (not-false _ (c .before .before .before .before .before .before .if2 .left))))))
 
 same-length-7 : tie.Need-same-length-7
 same-length-7 c = search needs

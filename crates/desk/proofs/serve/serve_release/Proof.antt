@@ -1,16 +1,19 @@
 -- The ticket's claim is active, or waits, or there is none, as the law's places say. What an end leaves is a sound part, and the
 -- pass runs over it.
 use Prim.Native.Nat.{ℕ, _≤_, _<_}
-use mathlib.Core.Path.{_≡_, _∙_}
+use mathlib.Core.Path.{_≡_, sym, ap, _∙_}
 use native.Mathlib.Omega.{arith}
 use borrow.Author.Needs.{needs}
 use lib.ListN.{length, take}
+use Rattle.law.specs.Base.{sumOf}
 use Rattle.law.specs.Types.{Disk as LawDisk}
 use Rattle.law.specs.Calls.{release}
 use Rattle.law.specs.Sound.{Sound}
 use Rattle.law.specs.DiskType.{diskTable}
 use Rattle.claims.specs.Rows.{placeOf}
 use Rattle.claims.specs.RowLaws.{row-length}
+use Rattle.lock.specs.Masks.{methodsOf}
+use Rattle.lock.specs.Pairs.{addOf}
 use Rattle.rules.specs.declared.disk.Disk.{Disk}
 use Rattle.rules.specs.Answers.{endedAt, leftAt}
 use Rattle.rules.specs.Disks.{Good}
@@ -21,8 +24,8 @@ use Rattle.place.specs.Holding.{Holds}
 use Rattle.place.specs.HoldingLaws.{decodes-holds, active-slots, waiting-slots}
 use Rattle.answer.specs.Answers.{refusalOf}
 use Rattle.desk.specs.Step.{released}
-use Rattle.desk.proofs.ReleaseLaws.{release-early, release-active, sound-active, release-waiting, sound-waiting, release-lost}
-use Rattle.desk.proofs.ServeLaws.{step-refused, made-long, made-decodes, made-sound, settle-as}
+use Rattle.desk.proofs.ReleaseLaws.{release-early, release-active, sound-active, release-waiting, sound-waiting, release-lost, methods-there, actives-ended, actives-left}
+use Rattle.desk.proofs.ServeLaws.{step-refused, made-long, made-decodes, made-held, made-sound, settle-as}
 use Rattle.desk.proofs.serve.serve_release.Statement.{statement}
 use Rattle.desk.proofs.serve.serve_release.Tie as tie
 
@@ -168,19 +171,28 @@ find-in-requires : tie.Need-find-in-requires
 find-in-requires c κs =
     (search needs, rw (active-slots (whole (c .before .before .before .before .before .before .before .before)), actives (c .before .before)) (good (c .before .before .before .before .before .before .before .before .before) .active))
 
+without-one-requires : tie.Need-without-one-requires
+without-one-requires c κs =
+    let k = c .before .before .before .before .before .before .before .before .before .before .before .before in
+    let seen = k .pre .1 .1 .1 .1 in
+    (k .pre .0, (good k, (here (c .before), (methods-there (law k) (k .pre .1 .1 .0), (seen .0, (seen .1, seen .2))))))
+
 end-requires : tie.Need-end-requires
 end-requires c κs =
-    let k = c .before .before .before .before .before .before .before .before .before .before .before .before in
-    (k .pre .0, (k .pre .1 .0, (k .pre .1 .1 .0, here (c .before))))
+    let k = c .before .before .before .before .before .before .before .before .before .before .before .before .before .before in
+    (k .pre .0, (k .pre .1 .0, (k .pre .1 .1 .0, here (c .before .before .before))))
 
 settle-requires : tie.Need-settle-requires
 settle-requires c κs =
-    let b = c .before .before .before .before .before .before in
+    let b = c .before .before .before .before .before .before .before .before in
+    let k = start b in
     let is = c .before .before .before .before .«end» .ensures in
     let e = ended b in
     let h = sound-ended b in
     let t = clock-ended b in
-    (made-long e h t is, (made-decodes e h t is, (made-sound e h t is, c .before .before .before .before .before .before .before .before .before .before .before .before .before .before .before .before .before .pre .1 .1 .1)))
+    let actives = sym (ap (λ (d : LawDisk). d .core .active) (made-held e h t is) ∙ actives-ended (law k) (k .args .second) (at b)) in
+    let rest = c .before .before .before .before .before .before .without-one .ensures in
+    (made-long e h t is, (made-decodes e h t is, (made-sound e h t is, (k .pre .1 .1 .1 .0, (rest .0 ∙ ap (sumOf addOf) actives, rest .1 ∙ ap methodsOf actives)))))
 
 same-length-3 : tie.Need-same-length-3
 same-length-3 c = search needs
@@ -190,8 +202,8 @@ same-length-4 c = search needs
 
 returns-2 : tie.Need-returns-2
 returns-2 c =
-    let b = c .before .before .before .before .before .before .before .before .before .before .before in
-    let k = c .before .before .before .before .before .before .before .before .before .before .before .before .before .before .before .before .before .before .before .before .before .before in
+    let b = c .before .before .before .before .before .before .before .before .before .before .before .before .before in
+    let k = c .before .before .before .before .before .before .before .before .before .before .before .before .before .before .before .before .before .before .before .before .before .before .before .before in
     settle-as (ended b) (sound-ended b) (clock-ended b) (c .before .before .before .before .before .before .before .before .before .«end» .ensures) (k .args .part .now) (k .args .ticket) (release-ended b) (c .before .before .before .before .settle .ensures)
 
 word-at-requires-3 : tie.Need-word-at-requires-3
@@ -221,11 +233,14 @@ leave-requires c κs =
 settle-requires-2 : tie.Need-settle-requires-2
 settle-requires-2 c κs =
     let b = c .before .before .before .before .before .before in
+    let k = start-2 b in
     let is = c .before .before .before .before .leave .ensures in
     let e = left b in
     let h = sound-left b in
     let t = clock-left b in
-    (made-long e h t is, (made-decodes e h t is, (made-sound e h t is, c .before .before .before .before .before .before .before .before .before .before .before .before .before .before .before .before .before .before .before .before .before .before .before .pre .1 .1 .1)))
+    let actives = sym (ap (λ (d : LawDisk). d .core .active) (made-held e h t is) ∙ actives-left (law k) (k .args .second) (at-2 b)) in
+    let seen = k .pre .1 .1 .1 .1 in
+    (made-long e h t is, (made-decodes e h t is, (made-sound e h t is, (k .pre .1 .1 .1 .0, (seen .0 ∙ ap (sumOf addOf) actives, seen .1 ∙ ap methodsOf actives)))))
 
 same-length-5 : tie.Need-same-length-5
 same-length-5 c = search needs
@@ -274,6 +289,7 @@ serve-release-spec =
     part-find-in-start
     part-find-in-end
     find-in-requires
+    without-one-requires
     end-requires
     settle-requires
     same-length-3

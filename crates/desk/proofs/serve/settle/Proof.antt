@@ -18,7 +18,7 @@ put-answer-requires c κs = search needs
 pass-requires : tie.Need-pass-requires
 pass-requires c κs =
     let k = c .before .before .before .before .before .before .before .before in
-    (k .pre .0, (k .pre .1 .0, (k .pre .1 .1 .0, (search needs, record { own = A.Released (k .args .ticket); is = c .before .before .before .before .put-answer .ensures }))))
+    (k .pre .0, (k .pre .1 .0, (k .pre .1 .1 .0, (search needs, (record { own = A.Released (k .args .ticket); is = c .before .before .before .before .put-answer .ensures }, k .pre .1 .1 .1 .1)))))
 
 same-length : tie.Need-same-length
 same-length c = search needs
