@@ -3,11 +3,12 @@ include!("crates.rs");
 
 use desk::serve::serve;
 use judge::judged;
-use judge::step::{decide, taken_together};
+use judge::step::decide;
 use num::word::word_at;
 use part::write::put_disk;
 use rules::calls::{asked, open};
 use rules::disk::Asked;
+use sound::is_sound;
 use std::hint::black_box;
 
 const TURNS: u32 = 2_000_000;
@@ -107,7 +108,7 @@ fn time_call(name: &str, part: &Part, record: Record, code: u32) {
 
 fn time_judged(name: &str, part: &Part, method: u8) {
     let q = fields(method);
-    let active = taken_together(part);
+    let active = is_sound(part);
     time(name, || {
         black_box(&judged(black_box(part), black_box(q), active.adds, active.methods));
     });
@@ -116,7 +117,7 @@ fn time_judged(name: &str, part: &Part, method: u8) {
 fn time_decide(name: &str, part: &Part, method: u8) {
     let c = asked(fields(method), 99);
     let waitings = word_at(part, 12) as usize;
-    let active = taken_together(part);
+    let active = is_sound(part);
     time(name, || {
         black_box(decide(black_box(part), waitings, black_box(c), 0, active.adds, active.methods).ok);
     });
