@@ -1,4 +1,5 @@
--- Laws of a grant on a part: the total noted in the head, the claim behind the active ones, and the disk that is left.
+-- Laws of a grant on a part: the clock and the next ticket, the total noted in the head, the claim behind the active ones, and the
+-- disk that is left.
 use Prim.Native.Nat.{ℕ, zero, suc, _+_, _^_, _≤_, _<_}
 use mathlib.Core.Bool.{true, false}
 use mathlib.Core.List.{List}
@@ -21,8 +22,17 @@ use Rattle.rules.specs.Disks.{figuresIn, coreIn, diskOf, Good, DiskIs, grantOf}
 use Rattle.part.specs.Layout.{slots, headWords, decode, AttrFits}
 use Rattle.slots.specs.Slots.{Kept}
 use Rattle.place.specs.Holding.{Holds, NoteFits, numbered, withFigures, withActive, withLast, noted, raisedOf}
-use Rattle.place.specs.HoldingLaws.{holds-decode, holds-self, put-active-run, put-actives, put-figure}
+use Rattle.place.specs.HoldingLaws.{holds-decode, holds-self, put-active-run, put-clock, put-next, put-actives, put-figure}
 use Rattle.place.proofs.ChangeLaws.{grant-reading, grant-write}
+
+-- ---- the clock and the next ticket
+
+abbrev pub clocked : Disk → ℕ → ℕ → Disk
+clocked d second next = numbered d second next (d .actives) (d .waitings)
+
+pub clocked-holds : {s : List ℕ} {d : Disk} → Holds s d → {r : List ℕ} {second next : ℕ} → r ≡ putWord (putWord s 0 second) 4 next →
+    second < 2 ^ 32 → next < 2 ^ 32 → Holds r (clocked d second next)
+clocked-holds h e l m = rw e (put-next (put-clock h l) m)
 
 -- ---- the noted total
 

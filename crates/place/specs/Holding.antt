@@ -83,10 +83,6 @@ withWaiting d n ws =
 abbrev pub withLast : Disk → ℕ → Claim → Disk
 withLast d n c = numbered (withActive d (set (d .active) n c)) (d .clock) (d .next) (n + 1) (d .waitings)
 
--- Another clock and next ticket.
-abbrev pub clocked : Disk → ℕ → ℕ → Disk
-clocked d second next = numbered d second next (d .actives) (d .waitings)
-
 -- ---- what ends and what is granted
 
 -- The end of the active claim w, in the figures.

@@ -14,7 +14,8 @@ ghost use Rattle.rules.specs.Answers.{TakesGrant, grantedOf};
 ghost use Rattle.rules.specs.Disks.{figuresIn, coreIn, diskOf, Good, DiskIs, grantOf};
 ghost use Rattle.part.specs.Layout.{decode, decodes};
 ghost use Rattle.part.specs.Held.{held, partFor};
-ghost use Rattle.place.specs.Holding.{Holds, NoteFits, withLast, clocked, noted, raisedOf};
+ghost use Rattle.place.specs.Holding.{Holds, NoteFits, withLast, noted, raisedOf};
+use crate::moves::put_numbers;
 use law::Claim;
 use lock::method::is_reading;
 use lock::step::raise_of;
@@ -93,16 +94,6 @@ pub fn grant(s: &mut [u8], c: Claim, told: i32, total: u32)
     put_last(s, n, g);
 }
 
-// The clock and the next ticket.
-fn stamp(s: &mut [u8], second: u32, next: u32)
-    requires { ⌜ length (now s) ≡ 768 ⌝ }
-    requires { ⌜ Holds (now s) (decode (now s)) ⌝ }
-    ensures { λ _. ⌜ Holds (now (s .exit)) (clocked (decode (now (s .entry))) second next) ⌝ }
-{
-    put_word(s, 0, second);
-    put_word(s, 4, next);
-}
-
 // The claim c, new at that second, granted.
 pub fn accept(s: &mut [u8], second: u32, c: Claim, told: i32, total: u32)
     requires { ⌜ length (now s) ≡ 768 ⌝ }
@@ -111,6 +102,6 @@ pub fn accept(s: &mut [u8], second: u32, c: Claim, told: i32, total: u32)
     requires { ⌜ told ≡ tellBy (figuresIn (decode (now s))) (kindOf diskTable c) ⌝ }
     ensures { λ _. ⌜ now (s .exit) ≡ partFor (grantedOf (held (now (s .entry))) second c) ⌝ }
 {
-    stamp(s, second, c.ticket + 1);
+    put_numbers(s, second, 4, c.ticket + 1);
     grant(s, c, told, total);
 }

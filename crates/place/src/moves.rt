@@ -59,8 +59,8 @@ fn land(s: &mut [u8], w: Claim)
     }
 }
 
-// The second of a call, and a count of the head.
-fn put_count(s: &mut [u8], second: u32, at: usize, n: u32)
+// The clock, which is the second of a call, and another number of the head: a count, or the next ticket.
+pub(crate) fn put_numbers(s: &mut [u8], second: u32, at: usize, n: u32)
     requires { ⌜ length (now s) ≡ 768 ⌝ }
     requires { ⌜ at ≤ 12 ⌝ }
     ensures { λ _. ⌜ now (s .exit) ≡ putWord (putWord (now (s .entry)) 0 second) at n ⌝ }
@@ -80,7 +80,7 @@ pub fn end(s: &mut [u8], second: u32, at: usize)
     let n = word_at(s, 8);
     land(s, active_at(s, at));
     take_out(&mut s[64..416], n as usize, at);
-    put_count(s, second, 8, n - 1);
+    put_numbers(s, second, 8, n - 1);
 }
 
 // The waiting claim at that place gone at that second.
@@ -92,7 +92,7 @@ pub fn leave(s: &mut [u8], second: u32, at: usize)
 {
     let n = word_at(s, 12);
     take_out(&mut s[416..768], n as usize, at);
-    put_count(s, second, 12, n - 1);
+    put_numbers(s, second, 12, n - 1);
 }
 
 // The claim c waiting from that second on.
@@ -105,6 +105,6 @@ pub fn wait(s: &mut [u8], second: u32, c: Claim)
 {
     let n = word_at(s, 12);
     queue_in(&mut s[416..768], n as usize, c);
-    put_count(s, second, 12, n + 1);
+    put_numbers(s, second, 12, n + 1);
     put_word(s, 4, c.ticket + 1);
 }

@@ -1,5 +1,6 @@
 -- The clock and the next ticket, and the grant: the part of the disk that the law leaves.
 use mathlib.Core.Path.{_∙_}
+use native.Mathlib.Omega.{arith}
 use borrow.Author.Needs.{needs}
 use mir.Facts.{toZ-ofZ}
 use mir.Syntax.{w32}
@@ -9,6 +10,7 @@ use Rattle.rules.specs.Answers.{grantedOf}
 use Rattle.part.specs.Layout.{decode}
 use Rattle.place.specs.Holding.{Holds}
 use Rattle.place.specs.HoldingLaws.{holds-decode, holds-self, holds-part, decodes-holds}
+use Rattle.place.proofs.GrantLaws.{clocked-holds}
 use Rattle.place.proofs.grant.accept.Statement.{statement}
 use Rattle.place.proofs.grant.accept.Tie as tie
 
@@ -19,17 +21,18 @@ disk k = decode (k .args .s .now)
 whole : (k : tie.After-slice-known) → Holds (k .before .args .s .now) (disk (k .before))
 whole k = decodes-holds (k .before .args .s .now) (λ i. k .slice-known .given i .fits) (k .before .pre .0) (k .before .pre .1 .0)
 
-add-stamp : tie.Need-add-stamp
-add-stamp c = search needs
+add-put-numbers : tie.Need-add-put-numbers
+add-put-numbers c = search needs
 
-stamp-requires : tie.Need-stamp-requires
-stamp-requires c κs = (c .before .before .before .pre .0, whole (c .before .before))
+put-numbers-requires : tie.Need-put-numbers-requires
+put-numbers-requires c κs = search needs
 
 grant-requires : tie.Need-grant-requires
 grant-requires c κs =
-    let k = c .before .before .before .before .before .before .before in
-    let h = c .before .before .before .stamp .ensures in
+    let p = c .before .before .before in
+    let k = p .before .before .before .before in
     let t = k .pre .1 .1 .0 in
+    let h = clocked-holds (whole (p .before .before .before)) (p .put-numbers .ensures) (k .fits .second .fits) (omega (arith, t .ticket)) in
     let f : SFits w32 (k .args .told) = search needs in (
       search needs,
       (
@@ -47,9 +50,11 @@ same-length c = search needs
 returns : tie.Need-returns
 unfolding grantedOf
 returns c =
-    let h = c .before .before .before .before .before .before .stamp .ensures in
+    let p = c .before .before .before .before .before .before in
+    let k = p .before .before .before .before in
+    let h = clocked-holds (whole (p .before .before .before)) (p .put-numbers .ensures) (k .fits .second .fits) (omega (arith, k .pre .1 .1 .0 .ticket)) in
     let g = c .before .before .grant .ensures in
     holds-part (g .0) (rw (holds-decode h) at (g .1))
 
 pub accept-spec : {M : Type 1} → statement M
-accept-spec = tie.close (tie.spec add-stamp stamp-requires grant-requires same-length returns)
+accept-spec = tie.close (tie.spec add-put-numbers put-numbers-requires grant-requires same-length returns)

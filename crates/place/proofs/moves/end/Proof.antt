@@ -91,13 +91,13 @@ take-out-requires c κs =
     let k = c .before .before .before .before .before .before .before .before .before .before in
     (search needs, (active-kept (landed l), rw (still l, count (c .before .before .before .before .before .before .before)) (good k .active, k .pre .1 .1 .1)))
 
-sub-put-count : tie.Need-sub-put-count
-sub-put-count c =
+sub-put-numbers : tie.Need-sub-put-numbers
+sub-put-numbers c =
     let w = c .before .before .before .before .before .before .before .before .before .before .before in
     omega (arith, count w, w .before .before .before .pre .1 .1 .1)
 
-put-count-requires : tie.Need-put-count-requires
-put-count-requires c κs = search needs
+put-numbers-requires : tie.Need-put-numbers-requires
+put-numbers-requires c κs = search needs
 
 same-length : tie.Need-same-length
 same-length c = search needs
@@ -111,7 +111,7 @@ returns c =
     let s = l .land .last .0 in
     let t = c .before .before .before .before .before .before .take-out in
     let wide : length s ≡ 768 = search needs in
-    c .before .before .put-count .ensures
+    c .before .before .put-numbers .ensures
     ∙ ap (λ (r : List ℕ). putWord (putWord r 0 (a .second)) 8 (w .word-at .result - 1)) (mid-splice 64 416 s (t .last .0) (omega arith) (omega (arith, wide)) (long (c .before .before .before .before .before .before)))
     ∙ ap (λ (n : ℕ). putWord (putWord (splice s 64 (t .last .0)) 0 (a .second)) 8 (n - 1)) (count w)
     ∙ end-part (good k) (a .second) (a .at) (k .fits .second .fits) (k .pre .1 .1 .1) (whole (w .before .before) .fits .actives) (landed l) (t .ensures .0) (rw (still l, count w) at (t .ensures .1))
@@ -128,7 +128,7 @@ end-spec =
     part-take-out-end
     cast-take-out
     take-out-requires
-    sub-put-count
-    put-count-requires
+    sub-put-numbers
+    put-numbers-requires
     same-length
     returns)

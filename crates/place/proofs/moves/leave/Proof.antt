@@ -54,13 +54,13 @@ take-out-requires c κs =
     let k = c .before .before .before .before in
     (search needs, (waiting-kept h, rw (waiting-slots h, count (c .before)) (good k .waiting, k .pre .1 .1)))
 
-sub-put-count : tie.Need-sub-put-count
-sub-put-count c =
+sub-put-numbers : tie.Need-sub-put-numbers
+sub-put-numbers c =
     let w = c .before .before .before .before .before in
     omega (arith, count w, w .before .before .before .pre .1 .1)
 
-put-count-requires : tie.Need-put-count-requires
-put-count-requires c κs = search needs
+put-numbers-requires : tie.Need-put-numbers-requires
+put-numbers-requires c κs = search needs
 
 same-length : tie.Need-same-length
 same-length c = search needs
@@ -73,7 +73,7 @@ returns c =
     let h = whole (w .before .before) in
     let t = c .before .before .before .before .before .before .take-out in
     let long : length (t .last .0) ≡ 352 = search needs in
-    c .before .before .put-count .ensures
+    c .before .before .put-numbers .ensures
     ∙ ap (λ (r : List ℕ). putWord (putWord r 0 (a .second)) 12 (w .word-at .result - 1)) (mid-splice 416 768 (a .s .now) (t .last .0) (omega arith) (omega (arith, k .pre .0)) long)
     ∙ ap (λ (n : ℕ). putWord (putWord (splice (a .s .now) 416 (t .last .0)) 0 (a .second)) 12 (n - 1)) (count w)
     ∙ left-part (good k) (a .second) (a .at) (k .fits .second .fits) (k .pre .1 .1) (h .fits .waitings) h (t .ensures .0) (rw (waiting-slots h, count w) at (t .ensures .1))
@@ -88,7 +88,7 @@ leave-spec =
     part-take-out-end
     cast-take-out
     take-out-requires
-    sub-put-count
-    put-count-requires
+    sub-put-numbers
+    put-numbers-requires
     same-length
     returns)

@@ -58,11 +58,11 @@ queue-in-requires c κs =
     let k = c .before .before .before .before in
     (search needs, (waiting-kept h, rw (waiting-slots h, count (c .before)) (good k .waiting, k .pre .1 .1 .0)))
 
-add-put-count : tie.Need-add-put-count
-add-put-count c = search needs
+add-put-numbers : tie.Need-add-put-numbers
+add-put-numbers c = search needs
 
-put-count-requires : tie.Need-put-count-requires
-put-count-requires c κs = search needs
+put-numbers-requires : tie.Need-put-numbers-requires
+put-numbers-requires c κs = search needs
 
 add-put-word : tie.Need-add-put-word
 add-put-word c = search needs
@@ -82,7 +82,7 @@ returns c =
     let q = c .before .before .before .before .before .before .before .before .before .before .before .queue-in in
     c .before .before .put-word .ensures
     ∙ ap (λ (r : List ℕ). putWord r 4 (a .c .ticket + 1))
-    (c .before .before .before .before .before .before .before .put-count .ensures
+    (c .before .before .before .before .before .before .before .put-numbers .ensures
     ∙ ap (λ (r : List ℕ). putWord (putWord r 0 (a .second)) 12 (w .word-at .result + 1)) (mid-splice 416 768 (a .s .now) (q .last .0) (omega arith) (omega (arith, k .pre .0)) (long (c .before .before .before .before .before .before .before .before .before .before .before)))
     ∙ ap (λ (n : ℕ). putWord (putWord (splice (a .s .now) 416 (q .last .0)) 0 (a .second)) 12 (n + 1)) (count w))
     ∙ wait-part (good k) (a .second) (a .c) (k .fits .second .fits) (k .pre .1 .1 .0) (k .pre .1 .1 .1) h (q .ensures .0) (rw (waiting-slots h, count w) at (q .ensures .1))
@@ -97,8 +97,8 @@ wait-spec =
     part-queue-in-end
     cast-queue-in
     queue-in-requires
-    add-put-count
-    put-count-requires
+    add-put-numbers
+    put-numbers-requires
     add-put-word
     put-word-requires
     same-length

@@ -4,8 +4,8 @@ use mathlib.Core.List.{List}
 use mathlib.Core.Path.{ap, _∙_}
 use borrow.Author.Needs.{needs}
 use Rattle.num.specs.Word.{putWord}
-use Rattle.place.proofs.moves.put_count.Statement.{statement}
-use Rattle.place.proofs.moves.put_count.Tie as tie
+use Rattle.place.proofs.moves.put_numbers.Statement.{statement}
+use Rattle.place.proofs.moves.put_numbers.Tie as tie
 
 put-word-requires : tie.Need-put-word-requires
 put-word-requires c κs = search needs
@@ -21,5 +21,5 @@ returns c =
     let a = c .before .before .before .before .before .before .before .before .before .args in
     c .before .before .put-word2 .ensures ∙ ap (λ (r : List ℕ). putWord r (a .at) (a .n)) (c .before .before .before .before .before .before .put-word .ensures)
 
-pub put-count-spec : {M : Type 1} → statement M
-put-count-spec = tie.close (tie.spec put-word-requires put-word-requires-2 same-length returns)
+pub put-numbers-spec : {M : Type 1} → statement M
+put-numbers-spec = tie.close (tie.spec put-word-requires put-word-requires-2 same-length returns)
