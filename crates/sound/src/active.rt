@@ -9,8 +9,8 @@ ghost use Rattle.lock.specs.Masks.{methodsOf, twiceOf};
 ghost use Rattle.part.specs.Layout.{decode, decodes};
 ghost use Rattle.sound.specs.Tests.{figuresFit, eachActive, everyMeets, activesFit};
 ghost use Rattle.sound.specs.Seen.{mayClash, SeenIs, Onward};
-use crate::alone::MOST_ERROR;
 use crate::alone::active_fits;
+use crate::alone::most_errors;
 use crate::pairs::meets;
 use lock::method::TABLE;
 use lock::method::own_bit;
@@ -61,15 +61,7 @@ pub fn actives_fit(s: &[u8]) -> Walked
     let n = word_at(s, 8) as usize;
     let used = used_at(s);
     let promised = promised_at(s);
-    let most: [u32; 7] = [
-        used.limit,
-        promised.limit,
-        promised.limit,
-        0,
-        MOST_ERROR,
-        MOST_ERROR,
-        MOST_ERROR,
-    ];
+    let most = most_errors(used.limit, promised.limit);
     let mut adds: u64 = 0;
     let mut methods: u64 = 0;
     let mut twice: u64 = 0;

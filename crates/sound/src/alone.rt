@@ -5,7 +5,7 @@ ghost use mathlib.Core.Path.{_≡_};
 ghost use lib.ListN.{length};
 ghost use Rattle.law.specs.Entries.{kindAt, kindOf};
 ghost use Rattle.law.specs.DiskType.{diskTable};
-ghost use Rattle.sound.specs.Tests.{ifReading, mostValueBy, valueSizeBy, aloneFits, activeBy, waitingBy};
+ghost use Rattle.sound.specs.Tests.{ifReading, mostValueBy, valueSizeBy, mostErrors, aloneFits, activeBy, waitingBy};
 use law::Claim;
 use lock::method::METHODS;
 use lock::method::is_reading;
@@ -16,7 +16,7 @@ const MOST_VALUE: u32 = 1000000000;
 
 const MOST_STATE: u32 = 255;
 
-pub const MOST_ERROR: u32 = 2000000000;
+const MOST_ERROR: u32 = 2000000000;
 
 const MOST_PRIORITY: u32 = 255;
 
@@ -52,6 +52,22 @@ fn value_size(c: Claim) -> u32
     } else {
         size(c.value)
     }
+}
+
+// How large the error of each method may be: a write's is within the limit of what it writes, which is 0 of the state; a reading's
+// is its stated limit.
+pub fn most_errors(used: u32, promised: u32) -> [u32; 7]
+    ensures { λ r. ⌜ r ≡ mostErrors used promised ⌝ }
+{
+    [
+        used,
+        promised,
+        promised,
+        0,
+        MOST_ERROR,
+        MOST_ERROR,
+        MOST_ERROR,
+    ]
 }
 
 // What an active claim and a waiting one both pass: method, ticket and priority in range; the value, of a state not below 0; the

@@ -9,7 +9,7 @@ ghost use Rattle.rules.specs.Disks.{figuresIn, diskOf};
 ghost use Rattle.part.specs.Layout.{decode, decodes};
 ghost use Rattle.sound.specs.Tests.{figuresFit, waitingsFit};
 ghost use Rattle.sound.specs.Seen.{Unmet};
-use crate::alone::MOST_ERROR;
+use crate::alone::most_errors;
 use crate::alone::waiting_fits;
 use claims::before;
 use num::bits::bit_of;
@@ -41,15 +41,7 @@ pub fn waitings_fit(s: &[u8], tickets: u64, again: u64) -> Waited
     let next = word_at(s, 4);
     let used = used_at(s);
     let promised = promised_at(s);
-    let most: [u32; 7] = [
-        used.limit,
-        promised.limit,
-        promised.limit,
-        0,
-        MOST_ERROR,
-        MOST_ERROR,
-        MOST_ERROR,
-    ];
+    let most = most_errors(used.limit, promised.limit);
     let mut mask = tickets;
     let mut met = again;
     let mut i: usize = 0;

@@ -56,40 +56,40 @@ Inv s clock next n promised most adds₀ methods₀ twice₀ tickets₀ again₀
 abbrev μ : tie.MeasureT-loop
 μ s clock next n promised most adds₀ methods₀ twice₀ tickets₀ again₀ i₀ adds methods twice tickets again i = n - i
 
--- The place where the figures are read, and the part there.
+-- The place where the figures are read and the row is made, and the part there.
 abbrev Read : Type 0
-Read = tie.After-promised-at Inv μ
+Read = tie.After-most-errors Inv μ
 
 abbrev part : Read → List ℕ
-part k = k .before .before .before .before .before .before .args .s .now
+part k = k .before .before .before .before .before .before .before .args .s .now
 
 long : (k : Read) → length (part k) ≡ 768
-long k = k .before .before .before .before .before .before .pre .0
+long k = k .before .before .before .before .before .before .before .pre .0
 
 sane : (k : Read) → decodes (part k) ≡ true
-sane k = k .before .before .before .before .before .before .pre .1 .0
+sane k = k .before .before .before .before .before .before .before .pre .1 .0
 
-count : (k : Read) → k .before .before .word-at3 .result ≡ decode (part k) .actives
-count k = k .before .before .word-at3 .ensures ∙ actives-read (part k)
+count : (k : Read) → k .before .before .before .word-at3 .result ≡ decode (part k) .actives
+count k = k .before .before .before .word-at3 .ensures ∙ actives-read (part k)
 
 row : (k : Read) → Row (decode (part k) .active) (decode (part k) .actives)
 row k = good (part k) (long k) (sane k) .active
 
 -- The test of a claim with the limits read is that with the disk's figures.
 fits : (k : Read) (x : Claim) →
-    activeBy (mostErrors (k .before .used-at .result .limit) (k .promised-at .result .limit))
-    (k .before .before .before .before .word-at .result) (k .before .before .before .word-at2 .result) x
+    activeBy (k .most-errors .result)
+    (k .before .before .before .before .before .word-at .result) (k .before .before .before .before .word-at2 .result) x
     ≡ fit (part k) x
 fits k x =
     let s = part k in
     (λ i.
-    activeBy (mostErrors (k .before .used-at .ensures i .limit) (k .promised-at .ensures i .limit))
-    ((k .before .before .before .before .word-at .ensures ∙ clock-read s) i)
-    ((k .before .before .before .word-at2 .ensures ∙ next-read s) i) x)
-    ∙ active-is (figuresIn (decode s)) (decode s .clock) (decode s .next) (k .before .before .before .before .before .before .pre .1 .1) x
+    activeBy ((k .most-errors .ensures ∙ (λ j. mostErrors (k .before .before .used-at .ensures j .limit) (k .before .promised-at .ensures j .limit))) i)
+    ((k .before .before .before .before .before .word-at .ensures ∙ clock-read s) i)
+    ((k .before .before .before .before .word-at2 .ensures ∙ next-read s) i) x)
+    ∙ active-is (figuresIn (decode s)) (decode s .clock) (decode s .next) (k .before .before .before .before .before .before .before .pre .1 .1) x
 
 -- A turn: the claim read at i, and those behind it.
-turn : (k : Read) (i : ℕ) (x : Claim) → i < k .before .before .word-at3 .result →
+turn : (k : Read) (i : ℕ) (x : Claim) → i < k .before .before .before .word-at3 .result →
     x ≡ getD (decode (part k) .active) i noClaim → left (part k) i ≡ x ∷ left (part k) (i + 1)
 turn k i x h e = left-on (row k) i (omega (arith, h, count k)) ∙ ap (λ (y : Claim). y ∷ left (part k) (i + 1)) (sym e)
 
@@ -138,6 +138,9 @@ used-at-requires c κs = search needs
 
 promised-at-requires : tie.Need-promised-at-requires Inv μ
 promised-at-requires c κs = search needs
+
+most-errors-requires : tie.Need-most-errors-requires Inv μ
+most-errors-requires c κs = tt
 
 loop-holds : tie.Need-loop-holds Inv μ
 loop-holds c = (omega arith, omega arith, omega arith, refl, refl, refl, λ h. refl)
@@ -271,7 +274,7 @@ returns-3 c =
     let met = sym (q .before .none-clash .ensures) ∙ not-false _ (q .if2 .left) in
     let v = rw (toZ-ofZ (record { sfits = c .before .struct-told .given .0 .1 })) at (c .size .ensures .0) in (
       rw (v, adds-is e)
-          (ap (λ (a : Attr). leb (size (a .value) + sumOf addOf (actives (decode s))) mostValue) (k .promised-at .ensures)
+          (ap (λ (a : Attr). leb (size (a .value) + sumOf addOf (actives (decode s))) mostValue) (k .before .promised-at .ensures)
           ∙ test-last (activesFront d) (sumTest d) (each-is e, (met, tt))),
       ((λ h. (adds-is e, methods-is e, twice-is e)), (λ h. onward e)),
     )
@@ -288,6 +291,7 @@ actives-fit-spec =
     cast-n
     used-at-requires
     promised-at-requires
+    most-errors-requires
     loop-holds
     active-at-requires
     slice-aggregate-active-fits

@@ -55,24 +55,24 @@ count k = k .word-at .ensures ∙ waitings-read (part k)
 row : (k : Counted) → Row (decode (part k) .waiting) (decode (part k) .waitings)
 row k = good (part k) (long k) (k .before .before .pre .1 .0) .waiting
 
--- The place where the figures are read, and the count before it.
+-- The place where the figures are read and the row is made, and the count before it.
 abbrev Read : Type 0
-Read = tie.After-promised-at Inv μ
+Read = tie.After-most-errors Inv μ
 
 abbrev counted : Read → Counted
-counted k = k .before .before .before .before .before
+counted k = k .before .before .before .before .before .before
 
 -- The test of a claim with the limits read is that with the disk's figures.
 fits : (k : Read) (x : Claim) →
-    waitingBy (mostErrors (k .before .used-at .result .limit) (k .promised-at .result .limit))
-    (k .before .before .before .word-at2 .result) (k .before .before .word-at3 .result) x
+    waitingBy (k .most-errors .result)
+    (k .before .before .before .before .word-at2 .result) (k .before .before .before .word-at3 .result) x
     ≡ fit (part (counted k)) x
 fits k x =
     let s = part (counted k) in
     (λ i.
-    waitingBy (mostErrors (k .before .used-at .ensures i .limit) (k .promised-at .ensures i .limit))
-    ((k .before .before .before .word-at2 .ensures ∙ clock-read s) i)
-    ((k .before .before .word-at3 .ensures ∙ next-read s) i) x)
+    waitingBy ((k .most-errors .ensures ∙ (λ j. mostErrors (k .before .before .used-at .ensures j .limit) (k .before .promised-at .ensures j .limit))) i)
+    ((k .before .before .before .before .word-at2 .ensures ∙ clock-read s) i)
+    ((k .before .before .before .word-at3 .ensures ∙ next-read s) i) x)
     ∙ waiting-is (figuresIn (decode s)) (decode s .clock) (decode s .next) (counted k .before .before .pre .1 .1) x
 
 -- A turn: the claim read at i, and those behind it.
@@ -104,6 +104,9 @@ used-at-requires c κs = search needs
 
 promised-at-requires : tie.Need-promised-at-requires Inv μ
 promised-at-requires c κs = search needs
+
+most-errors-requires : tie.Need-most-errors-requires Inv μ
+most-errors-requires c κs = tt
 
 loop-holds : tie.Need-loop-holds Inv μ
 loop-holds c = (refl, λ h. (h, refl))
@@ -188,6 +191,7 @@ waitings-fit-spec =
     word-at-requires-3
     used-at-requires
     promised-at-requires
+    most-errors-requires
     loop-holds
     waiting-at-requires
     slice-aggregate-waiting-fits
