@@ -1,27 +1,28 @@
--- Laws of a claim by itself: where the limits of the figures are in range, what the code compares with the most that a claim's
--- kind may have are the law's tests of it.
+-- Laws of a claim by itself: where the figures fit, what the code compares with the most that a claim's method may have are the
+-- law's tests of it.
 use Prim.Native.Nat.{ℕ, _^_, _≤_, _<_}
 use mathlib.Core.Bool.{Bool, true, false, cond, _&&_, and-true}
-use mathlib.Core.List.{List, [], _∷_, _++_}
+use mathlib.Core.List.{List, [], _∷_}
 use mathlib.Core.Path.{_≡_, refl, sym, ap, _∙_}
 use native.Mathlib.Omega.{arith}
-use borrow.Author.Tests.{leb-true, le-leb, lt-leb, le-ltb, eqb-true, eq-eqb, ne-eqb}
+use borrow.Author.Tests.{ltb-true, leb-true, le-leb, lt-leb, le-ltb, eqb-true, eq-eqb, ne-eqb}
 use lib.Dec.{leb, ltb, eqb}
 use lib.IntN.{ℤ, pos, negsuc}
+use lib.ListN.{getD}
 use lib.Signed.{mag}
 use Rattle.num.specs.Metric.{size}
 use Rattle.num.specs.Signed.{wordOf}
 use Rattle.law.specs.declared.Claim.{Claim}
 use Rattle.law.specs.Base.{allTrue}
-use Rattle.law.specs.Lists.{passed, all-passed}
+use Rattle.law.specs.Lists.{Passed, passed, all-passed}
 use Rattle.law.specs.Says.{_and_}
-use Rattle.law.specs.Types.{mostValue, mostError, mostState, mostPriority, mostFlag, a0, a1, a2, Kind, sets, adds, reads, Figures}
+use Rattle.law.specs.Types.{mostValue, mostError, mostState, mostPriority, mostFlag, Attribute, a0, a1, a2, Kind, sets, adds, reads, Figures, attr}
 use Rattle.law.specs.Entries.{kindAt, kindOf}
-use Rattle.law.specs.Calls.{isCode, fieldTests, ownFits}
-use Rattle.law.specs.Sound.{bare, bareBy, readingBy}
+use Rattle.law.specs.Calls.{isCode, valueFits, fieldTests, ownFits}
+use Rattle.law.specs.Sound.{bare, bareBy, readingBy, limitFits}
 use Rattle.law.specs.DiskType.{diskTable}
 use Rattle.lock.proofs.MethodLaws.{method-past, method-cases}
-use Rattle.sound.specs.Tests.{figureTests, figureFits, figuresTests, figuresFit, claimTests, claimFits, toldTests, toldFits, activeFits, waitingFits, ifReading, mostValueBy, isStateSet, valueSizeBy, valueIn, limitBy, aloneTests, aloneFits}
+use Rattle.sound.specs.Tests.{figureTests, figureFits, figuresTests, figuresFit, claimTests, claimFits, toldFits, activeFits, waitingFits, ifReading, mostValueBy, isStateSet, valueSizeBy, valueIn, mostErrors, aloneTests, aloneFits, activeBy, waitingBy}
 use Rattle.sound.proofs.WalkLaws.{same-test}
 
 -- ---- the numbers that the code chooses by the method
@@ -32,14 +33,6 @@ value-of =
     method-cases (λ m. cond (ltb m 3) mostValue (cond (eqb m 3) mostState 0) ≡ mostValueBy (kindAt diskTable m))
     refl refl refl refl refl refl refl
     (λ m h. rw (method-past m h, le-ltb m 3 (omega arith), ne-eqb m 3 (λ e. omega arith)))
-
-pub limit-of : (used promised m : ℕ) →
-    cond (eqb m 0) used (cond (ltb m 3) promised 0) ≡ limitBy used promised (kindAt diskTable m)
-unfolding diskTable
-limit-of used promised =
-    method-cases (λ m. cond (eqb m 0) used (cond (ltb m 3) promised 0) ≡ limitBy used promised (kindAt diskTable m))
-    refl refl refl refl refl refl refl
-    (λ m h. rw (method-past m h, ne-eqb m 0 (λ e. omega arith), le-ltb m 3 (omega arith)))
 
 -- SetState alone sets the state.
 pub state-set : (m : ℕ) → eqb m 3 ≡ isStateSet (kindAt diskTable m)
@@ -73,19 +66,6 @@ last-of true true true d = and-true d
 last-of true true false d = refl
 last-of true false c d = refl
 last-of false b c d = refl
-
--- ---- figures that fit
-
--- Their limits: those of used and promised in range, that of the state 0.
-pub limits : (f : Figures) (now next : ℕ) → figuresFit f now next ≡ true →
-    (f .f0 .limit ≤ mostError) × (f .f1 .limit ≤ mostError) × (f .f2 .limit ≡ 0)
-unfolding figuresFit figureFits
-limits f now next h =
-    let t = passed (figuresTests f now next) h .1 .1 in
-    let u = passed (figureTests a0 now (f .f0)) (t .0) in
-    let p = passed (figureTests a1 now (f .f1)) (t .1 .0) in
-    let s = passed (figureTests a2 now (f .f2)) (t .1 .1 .0) in
-    (leb-true (f .f0 .limit) mostError (u .1 .0), leb-true (f .f1 .limit) mostError (p .1 .0), eqb-true (f .f2 .limit) 0 (s .1 .0))
 
 -- ---- by kind
 
@@ -205,46 +185,76 @@ module _ (now next : ℕ) (c : Claim) where
 
 -- ---- the claim
 
-module _ (f : Figures) (now next : ℕ) (c : Claim) where
-  abbrev kind : Kind
-  kind = kindOf diskTable c
+module _ (f : Figures) (now next : ℕ) (h : figuresFit f now next ≡ true) where
+  -- Their limits: each in range, that of the state 0.
+  figures-pass : Passed (figuresTests f now next)
+  unfolding figuresFit
+  figures-pass = passed (figuresTests f now next) h
 
-  -- The tests of an active claim but the last, which is of its amount, and those of a waiting one.
-  abbrev pub activeFront : List Bool
-  activeFront = aloneFits (f .f0 .limit) (f .f1 .limit) now next c ∷ leb (size (c .told)) (ifReading kind mostError 0) ∷ []
+  limit-fits : (a : Attribute) → limitFits a (attr f a .limit) ≡ true
+  unfolding figureFits
+  limit-fits a0 = passed (figureTests a0 now (f .f0)) (figures-pass .1 .1 .0) .1 .0
+  limit-fits a1 = passed (figureTests a1 now (f .f1)) (figures-pass .1 .1 .1 .0) .1 .0
+  limit-fits a2 = passed (figureTests a2 now (f .f2)) (figures-pass .1 .1 .1 .1 .0) .1 .0
 
-  abbrev pub amountFits : Bool
-  amountFits = leb (c .amount) (ifReading kind (c .error) 0)
+  none-of-state : f .f2 .limit ≡ 0
+  none-of-state = eqb-true (f .f2 .limit) 0 (limit-fits a2)
 
-  abbrev pub waitingFront : List Bool
-  waitingFront = aloneFits (f .f0 .limit) (f .f1 .limit) now next c ∷ eqb (size (c .told)) 0 ∷ []
+  limit-in : (a : Attribute) → attr f a .limit ≤ mostError
+  limit-in a0 = leb-true (f .f0 .limit) mostError (limit-fits a0)
+  limit-in a1 = leb-true (f .f1 .limit) mostError (limit-fits a1)
+  limit-in a2 = omega (arith, none-of-state)
 
-  -- The law's tests.
-  abbrev fieldsFit : Bool
-  fieldsFit = allTrue (fieldTests now kind c)
+  -- The row; the most error by kind, which the row has at the method.
+  abbrev most : List ℕ
+  most = mostErrors (f .f0 .limit) (f .f1 .limit)
 
-  abbrev own : Bool
-  own = ownFits f kind (c .error)
+  abbrev mostBy : Kind → ℕ
+  mostBy (sets a) = attr f a .limit
+  mostBy (adds a) = attr f a .limit
+  mostBy (reads m) = mostError
 
-  abbrev value : Bool
-  value = leb (size (c .value)) mostValue
+  most-at : (m : ℕ) → m < 7 → getD most m 0 ≡ mostBy (kindAt diskTable m)
+  unfolding diskTable
+  most-at =
+      method-cases (λ m. m < 7 → getD most m 0 ≡ mostBy (kindAt diskTable m))
+      (λ k. refl) (λ k. refl) (λ k. refl) (λ k. sym none-of-state) (λ k. refl) (λ k. refl) (λ k. refl) (λ m l k. absurd (omega arith))
 
-  module _ (used : f .f0 .limit ≤ mostError) (promised : f .f1 .limit ≤ mostError) (state : f .f2 .limit ≡ 0) where
-    pass-is : (k : Kind) →
-        allTrue (aloneTests (f .f0 .limit) (f .f1 .limit) now next k c)
+  module _ (c : Claim) where
+    abbrev kind : Kind
+    kind = kindOf diskTable c
+
+    -- The law's tests.
+    abbrev fieldsFit : Bool
+    fieldsFit = allTrue (fieldTests now kind c)
+
+    abbrev own : Bool
+    own = ownFits f kind (c .error)
+
+    kind-is : (k : Kind) →
+        allTrue (aloneTests (mostBy k) now next k c)
         ≡ allTrue (claimFits next c ∷ allTrue (fieldTests now k c) ∷ ownFits f k (c .error) ∷ [])
-    pass-is (sets a0) = write-is now next c value (f .f0 .limit) used
-    pass-is (sets a1) = write-is now next c value (f .f1 .limit) promised
-    pass-is (sets a2) = rw state (write-is now next c (isCode (c .value)) 0 (omega arith))
-    pass-is (adds a0) = write-is now next c value (f .f0 .limit) used
-    pass-is (adds a1) = write-is now next c value (f .f1 .limit) promised
-    pass-is (adds a2) = rw state (write-is now next c value 0 (omega arith))
-    pass-is (reads m) = read-is now next c
+    kind-is (sets a) = write-is now next c (valueFits a (c .value)) (attr f a .limit) (limit-in a)
+    kind-is (adds a) = write-is now next c (leb (size (c .value)) mostValue) (attr f a .limit) (limit-in a)
+    kind-is (reads m) = read-is now next c
 
-    pub active-is : allTrue (activeFront ++ (amountFits ∷ [])) ≡ activeFits f now next c
-    unfolding aloneFits activeFits toldFits
-    active-is = (λ i. pass-is kind i && told-is now next c kind i) ∙ sym (last-of (claimFits next c) fieldsFit own (toldFits c))
+    -- A method that there is not fails, whatever its error may be.
+    row-is : allTrue (aloneTests (getD most (c .method) 0) now next kind c) ≡ allTrue (aloneTests (mostBy kind) now next kind c)
+    row-is = by (ltb (c .method) 7) refl
+      where
+        by : (b : Bool) → ltb (c .method) 7 ≡ b →
+            allTrue (aloneTests (getD most (c .method) 0) now next kind c) ≡ allTrue (aloneTests (mostBy kind) now next kind c)
+        by true e = rw (most-at (c .method) (ltb-true (c .method) 7 e))
+        by false e = rw e
 
-    pub waiting-is : allTrue (waitingFront ++ (eqb (c .amount) 0 ∷ [])) ≡ waitingFits f now next c
-    unfolding aloneFits waitingFits
-    waiting-is = ap (λ (b : Bool). b && bare c) (pass-is kind) ∙ sym (last-of (claimFits next c) fieldsFit own (bare c))
+    alone-is : aloneFits most now next c ≡ allTrue (claimFits next c ∷ fieldsFit ∷ own ∷ [])
+    unfolding aloneFits
+    alone-is = row-is ∙ kind-is kind
+
+    pub active-is : activeBy most now next c ≡ activeFits f now next c
+    unfolding activeBy activeFits toldFits
+    active-is = (λ i. alone-is i && told-is now next c kind i) ∙ sym (last-of (claimFits next c) fieldsFit own (toldFits c))
+
+    pub waiting-is : waitingBy most now next c ≡ waitingFits f now next c
+    unfolding waitingBy waitingFits
+    waiting-is = ap (λ (b : Bool). b && bare c) alone-is ∙ sym (last-of (claimFits next c) fieldsFit own (bare c))

@@ -5,6 +5,7 @@ use mathlib.Core.Bool.{Bool, true, false, cond, not}
 use mathlib.Core.List.{List, [], _∷_, _++_}
 use lib.Dec.{leb, ltb, eqb}
 use lib.IntN.{ℤ}
+use lib.ListN.{getD}
 use Rattle.num.specs.Metric.{size}
 use Rattle.num.specs.Signed.{wordOf}
 use Rattle.law.specs.declared.Attr.{Attr}
@@ -111,41 +112,51 @@ valueIn (sets a) z = valueFits a z
 valueIn (adds a) z = leb (size z) mostValue
 valueIn (reads m) z = eqb (size z) 0
 
--- The limit of an attribute, by those of used and promised; that of the state is 0. Then that of what a write writes.
-abbrev pub limitOn : ℕ → ℕ → Attribute → ℕ
-limitOn used promised a0 = used
-limitOn used promised a1 = promised
-limitOn used promised a2 = 0
+-- How large the error of each method may be, by the limits of used and promised: a write's is within the limit of what it
+-- writes, which is 0 of the state; a reading's is its stated limit.
+abbrev pub mostErrors : ℕ → ℕ → List ℕ
+mostErrors used promised = used ∷ promised ∷ promised ∷ 0 ∷ mostError ∷ mostError ∷ mostError ∷ []
 
-abbrev pub limitBy : ℕ → ℕ → Kind → ℕ
-limitBy used promised (sets a) = limitOn used promised a
-limitBy used promised (adds a) = limitOn used promised a
-limitBy used promised (reads m) = 0
-
--- How large its error may be: a reading's is its stated limit, a write's is within the limit of what it writes.
-abbrev pub mostErrorBy : ℕ → ℕ → Kind → ℕ
-mostErrorBy used promised k = ifReading k mostError (limitBy used promised k)
-
--- What an active claim and a waiting one both pass, 16 to 18 among it (AloneLaws); then the fresh flag.
-abbrev pub aloneFront : ℕ → ℕ → ℕ → ℕ → Kind → Claim → List Bool
-aloneFront used promised now next k c =
+-- What an active claim and a waiting one both pass where its error may be so large, 16 to 18 among it (AloneLaws); then the
+-- fresh flag.
+abbrev pub aloneFront : ℕ → ℕ → ℕ → Kind → Claim → List Bool
+aloneFront most now next k c =
     ltb (c .method) 7
     ∷ leb 1 (c .ticket)
     ∷ ltb (c .ticket) next
     ∷ leb (c .priority) mostPriority
     ∷ valueIn k (c .value)
-    ∷ leb (c .error) (mostErrorBy used promised k)
+    ∷ leb (c .error) most
     ∷ leb (c .measured) (ifReading k 0 now)
     ∷ []
 
 abbrev pub flagTest : Kind → Claim → Bool
 flagTest k c = leb (c .flag) (ifReading k mostFlag 0)
 
-abbrev pub aloneTests : ℕ → ℕ → ℕ → ℕ → Kind → Claim → List Bool
-aloneTests used promised now next k c = aloneFront used promised now next k c ++ (flagTest k c ∷ [])
+abbrev pub aloneTests : ℕ → ℕ → ℕ → Kind → Claim → List Bool
+aloneTests most now next k c = aloneFront most now next k c ++ (flagTest k c ∷ [])
 
-unfoldable pub aloneFits : ℕ → ℕ → ℕ → ℕ → Claim → Bool
-aloneFits used promised now next c = allTrue (aloneTests used promised now next (kindOf diskTable c) c)
+-- By a row of the most error of each method.
+unfoldable pub aloneFits : List ℕ → ℕ → ℕ → Claim → Bool
+aloneFits most now next c = allTrue (aloneTests (getD most (c .method) 0) now next (kindOf diskTable c) c)
+
+-- An active claim: that, and its told; then its amount.
+abbrev pub activeFront : List ℕ → ℕ → ℕ → Claim → List Bool
+activeFront most now next c =
+    aloneFits most now next c ∷ leb (size (c .told)) (ifReading (kindOf diskTable c) mostError 0) ∷ []
+
+abbrev pub amountTest : Claim → Bool
+amountTest c = leb (c .amount) (ifReading (kindOf diskTable c) (c .error) 0)
+
+unfoldable pub activeBy : List ℕ → ℕ → ℕ → Claim → Bool
+activeBy most now next c = allTrue (activeFront most now next c ++ (amountTest c ∷ []))
+
+-- A waiting claim: both are 0.
+abbrev pub waitingFront : List ℕ → ℕ → ℕ → Claim → List Bool
+waitingFront most now next c = aloneFits most now next c ∷ eqb (size (c .told)) 0 ∷ []
+
+unfoldable pub waitingBy : List ℕ → ℕ → ℕ → Claim → Bool
+waitingBy most now next c = allTrue (waitingFront most now next c ++ (eqb (c .amount) 0 ∷ []))
 
 -- ---- two claims
 

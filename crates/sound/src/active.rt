@@ -10,6 +10,7 @@ ghost use Rattle.part.specs.Layout.{decode, decodes};
 ghost use Rattle.sound.specs.Tests.{figuresFit, eachActive, everyMeets, activesFit};
 ghost use Rattle.sound.specs.Seen.{mayClash, SeenIs, Onward};
 use crate::alone::active_fits;
+use crate::alone::most_errors;
 use crate::pairs::meets;
 use lock::method::TABLE;
 use lock::method::own_bit;
@@ -21,7 +22,6 @@ use num::truth::both;
 use num::truth::either;
 use num::word::word_at;
 use part::read::active_at;
-use part::read::code_at;
 use part::read::promised_at;
 use part::read::used_at;
 
@@ -61,7 +61,7 @@ pub fn actives_fit(s: &[u8]) -> Walked
     let n = word_at(s, 8) as usize;
     let used = used_at(s);
     let promised = promised_at(s);
-    let state = code_at(s);
+    let most = most_errors(used.limit, promised.limit);
     let mut adds: u64 = 0;
     let mut methods: u64 = 0;
     let mut twice: u64 = 0;
@@ -70,7 +70,7 @@ pub fn actives_fit(s: &[u8]) -> Walked
     let mut i: usize = 0;
     while i < n {
         let x = active_at(s, i);
-        if !active_fits(x, clock, next, used, promised, state) {
+        if !active_fits(x, clock, next, &most) {
             return failed();
         }
         adds = adds + add_part(x);

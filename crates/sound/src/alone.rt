@@ -2,12 +2,10 @@
 // most that the method allows: a number is chosen, not a way through the code, so the processor has no method to guess.
 
 ghost use mathlib.Core.Path.{_≡_};
-ghost use Prim.Native.Nat.{_≤_};
+ghost use lib.ListN.{length};
 ghost use Rattle.law.specs.Entries.{kindAt, kindOf};
 ghost use Rattle.law.specs.DiskType.{diskTable};
-ghost use Rattle.lock.specs.Methods.{figuresOf};
-ghost use Rattle.sound.specs.Tests.{ifReading, mostValueBy, valueSizeBy, limitBy, mostErrorBy, aloneFits, activeFits, waitingFits};
-use law::Attr;
+ghost use Rattle.sound.specs.Tests.{ifReading, mostValueBy, valueSizeBy, mostErrors, aloneFits, activeBy, waitingBy};
 use law::Claim;
 use lock::method::METHODS;
 use lock::method::is_reading;
@@ -24,9 +22,7 @@ const MOST_PRIORITY: u32 = 255;
 
 const MOST_FLAG: u32 = 1;
 
-// ReportUsed sets used; from there to SetState, which sets the state, the methods write promised.
-const REPORT_USED: u32 = 0;
-
+// The methods below it write used and promised, those above read.
 const SET_STATE: u32 = 3;
 
 // One number of a reading, another of a write.
@@ -58,28 +54,28 @@ fn value_size(c: Claim) -> u32
     }
 }
 
-// The limit of what a write writes, by those of used and promised; that of the state is 0.
-fn limit(m: u32, used: u32, promised: u32) -> u32
-    ensures { λ r. ⌜ r ≡ limitBy used promised (kindAt diskTable m) ⌝ }
+// How large the error of each method may be: a write's is within the limit of what it writes, which is 0 of the state; a reading's
+// is its stated limit.
+pub fn most_errors(used: u32, promised: u32) -> [u32; 7]
+    ensures { λ r. ⌜ r ≡ mostErrors used promised ⌝ }
 {
-    if m == REPORT_USED {
-        used
-    } else {
-        if m < SET_STATE { promised } else { 0 }
-    }
-}
-
-// A reading's stated limit is at most 2,000,000,000; a write's own error at most the limit of what it writes.
-fn most_error(m: u32, used: u32, promised: u32) -> u32
-    ensures { λ r. ⌜ r ≡ mostErrorBy used promised (kindAt diskTable m) ⌝ }
-{
-    if_reading(m, MOST_ERROR, limit(m, used, promised))
+    [
+        used,
+        promised,
+        promised,
+        0,
+        MOST_ERROR,
+        MOST_ERROR,
+        MOST_ERROR,
+    ]
 }
 
 // What an active claim and a waiting one both pass: method, ticket and priority in range; the value, of a state not below 0; the
-// error; measured by the clock's second, a reading at 0; the fresh flag, which a write has not.
-fn alone(c: Claim, clock: u32, next: u32, used: u32, promised: u32) -> bool
-    ensures { λ r. ⌜ r ≡ aloneFits used promised clock next c ⌝ }
+// error, by the row of the most that each method may have; measured by the clock's second, a reading at 0; the fresh flag, which
+// a write has not.
+fn alone(c: Claim, clock: u32, next: u32, most: &[u32]) -> bool
+    requires { ⌜ length (now most) ≡ 7 ⌝ }
+    ensures { λ r. ⌜ r ≡ aloneFits (now (most .entry)) clock next c ⌝ }
 {
     if METHODS <= c.method {
         return false;
@@ -96,7 +92,8 @@ fn alone(c: Claim, clock: u32, next: u32, used: u32, promised: u32) -> bool
     if most_value(c.method) < value_size(c) {
         return false;
     }
-    if most_error(c.method, used, promised) < c.error {
+    let m = c.method as usize;
+    if most[m] < c.error {
         return false;
     }
     if if_reading(c.method, 0, clock) < c.measured {
@@ -105,15 +102,12 @@ fn alone(c: Claim, clock: u32, next: u32, used: u32, promised: u32) -> bool
     c.flag <= if_reading(c.method, MOST_FLAG, 0)
 }
 
-// An active claim. The figures have been tested before: their limits are in range, the state's is 0. A reading's told is in range
-// and its amount ≤ its limit; a write has neither.
-pub fn active_fits(c: Claim, clock: u32, next: u32, used: Attr, promised: Attr, state: Attr) -> bool
-    requires { ⌜ used .limit ≤ 2_000_000_000 ⌝ }
-    requires { ⌜ promised .limit ≤ 2_000_000_000 ⌝ }
-    requires { ⌜ state .limit ≡ 0 ⌝ }
-    ensures { λ r. ⌜ r ≡ activeFits (figuresOf used promised state) clock next c ⌝ }
+// An active claim: a reading's told is in range and its amount ≤ its limit; a write has neither.
+pub fn active_fits(c: Claim, clock: u32, next: u32, most: &[u32]) -> bool
+    requires { ⌜ length (now most) ≡ 7 ⌝ }
+    ensures { λ r. ⌜ r ≡ activeBy (now (most .entry)) clock next c ⌝ }
 {
-    if !alone(c, clock, next, used.limit, promised.limit) {
+    if !alone(c, clock, next, most) {
         return false;
     }
     if if_reading(c.method, MOST_ERROR, 0) < size(c.told) {
@@ -123,20 +117,11 @@ pub fn active_fits(c: Claim, clock: u32, next: u32, used: Attr, promised: Attr, 
 }
 
 // A waiting claim: told and amount are 0.
-pub fn waiting_fits(
-    c: Claim,
-    clock: u32,
-    next: u32,
-    used: Attr,
-    promised: Attr,
-    state: Attr,
-) -> bool
-    requires { ⌜ used .limit ≤ 2_000_000_000 ⌝ }
-    requires { ⌜ promised .limit ≤ 2_000_000_000 ⌝ }
-    requires { ⌜ state .limit ≡ 0 ⌝ }
-    ensures { λ r. ⌜ r ≡ waitingFits (figuresOf used promised state) clock next c ⌝ }
+pub fn waiting_fits(c: Claim, clock: u32, next: u32, most: &[u32]) -> bool
+    requires { ⌜ length (now most) ≡ 7 ⌝ }
+    ensures { λ r. ⌜ r ≡ waitingBy (now (most .entry)) clock next c ⌝ }
 {
-    if !alone(c, clock, next, used.limit, promised.limit) {
+    if !alone(c, clock, next, most) {
         return false;
     }
     if size(c.told) != 0 {

@@ -9,11 +9,11 @@ ghost use Rattle.rules.specs.Disks.{figuresIn, diskOf};
 ghost use Rattle.part.specs.Layout.{decode, decodes};
 ghost use Rattle.sound.specs.Tests.{figuresFit, waitingsFit};
 ghost use Rattle.sound.specs.Seen.{Unmet};
+use crate::alone::most_errors;
 use crate::alone::waiting_fits;
 use claims::before;
 use num::bits::bit_of;
 use num::word::word_at;
-use part::read::code_at;
 use part::read::promised_at;
 use part::read::used_at;
 use part::read::waiting_at;
@@ -41,13 +41,13 @@ pub fn waitings_fit(s: &[u8], tickets: u64, again: u64) -> Waited
     let next = word_at(s, 4);
     let used = used_at(s);
     let promised = promised_at(s);
-    let state = code_at(s);
+    let most = most_errors(used.limit, promised.limit);
     let mut mask = tickets;
     let mut met = again;
     let mut i: usize = 0;
     while i < m {
         let x = waiting_at(s, i);
-        if !waiting_fits(x, clock, next, used, promised, state) {
+        if !waiting_fits(x, clock, next, &most) {
             return Waited {
                 ok: false,
                 again: 0,

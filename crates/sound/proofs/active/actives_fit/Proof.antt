@@ -19,17 +19,16 @@ use Rattle.law.specs.Types.{mostValue}
 use Rattle.claims.specs.Rows.{Row, noClaim}
 use Rattle.claims.specs.RowLaws.{left-on, left-end, sum-turn, sum-end, every-on, every-not, every-end}
 use Rattle.lock.specs.Masks.{methodsFrom, methodsOf, twiceFrom, twiceOf}
-use Rattle.lock.specs.Methods.{figuresOf}
 use Rattle.lock.specs.Pairs.{addOf}
 use Rattle.rules.specs.Disks.{figuresIn, diskOf}
 use Rattle.part.specs.Layout.{decode, decodes}
-use Rattle.sound.specs.Tests.{activeFits, eachActive, sumTest, activesFront, activesTests}
+use Rattle.sound.specs.Tests.{activeFits, mostErrors, activeBy, eachActive, sumTest, activesFront, activesTests}
 use Rattle.sound.specs.Seen.{free, Onward}
 use Rattle.sound.proofs.TestLaws.{test-fails, test-last}
 use Rattle.sound.proofs.WalkLaws.{there}
 use Rattle.sound.proofs.TicketLaws.{none-before, free-on}
 use Rattle.sound.proofs.MeetLaws.{methods-on, methods-end, twice-on, twice-end}
-use Rattle.sound.proofs.AloneLaws.{limits}
+use Rattle.sound.proofs.AloneLaws.{active-is}
 use Rattle.sound.proofs.DiskLaws.{actives, waitings, clock-read, next-read, actives-read, good}
 use Rattle.sound.proofs.active.actives_fit.Statement.{statement}
 use Rattle.sound.proofs.active.actives_fit.Tie as tie
@@ -45,7 +44,7 @@ abbrev left-on-all : List ℕ → ℕ → List Claim
 left-on-all s i = left s i ++ waitings (decode s)
 
 abbrev Inv : tie.InvT-loop
-Inv s clock next n used promised state adds₀ methods₀ twice₀ tickets₀ again₀ i₀ adds methods twice tickets again i =
+Inv s clock next n promised most adds₀ methods₀ twice₀ tickets₀ again₀ i₀ adds methods twice tickets again i =
     (i ≤ n)
     × (adds ≤ i * 2_147_483_648)
     × (adds + sumOf addOf (left s i) ≡ sumOf addOf (actives (decode s)))
@@ -55,11 +54,11 @@ Inv s clock next n used promised state adds₀ methods₀ twice₀ tickets₀ ag
     × (again ≡ 0 → free tickets (left-on-all s i) ≡ free 0 (left-on-all s 0))
 
 abbrev μ : tie.MeasureT-loop
-μ s clock next n used promised state adds₀ methods₀ twice₀ tickets₀ again₀ i₀ adds methods twice tickets again i = n - i
+μ s clock next n promised most adds₀ methods₀ twice₀ tickets₀ again₀ i₀ adds methods twice tickets again i = n - i
 
--- The place where the figures are read, and the part there.
+-- The place where the figures are read and the row is made, and the part there.
 abbrev Read : Type 0
-Read = tie.After-code-at Inv μ
+Read = tie.After-most-errors Inv μ
 
 abbrev part : Read → List ℕ
 part k = k .before .before .before .before .before .before .before .args .s .now
@@ -76,17 +75,18 @@ count k = k .before .before .before .word-at3 .ensures ∙ actives-read (part k)
 row : (k : Read) → Row (decode (part k) .active) (decode (part k) .actives)
 row k = good (part k) (long k) (sane k) .active
 
--- The test of a claim with the figures read is that with the disk's.
+-- The test of a claim with the limits read is that with the disk's figures.
 fits : (k : Read) (x : Claim) →
-    activeFits
-    (figuresOf (k .before .before .used-at .result) (k .before .promised-at .result) (k .code-at .result))
+    activeBy (k .most-errors .result)
     (k .before .before .before .before .before .word-at .result) (k .before .before .before .before .word-at2 .result) x
     ≡ fit (part k) x
-fits k x i =
-    activeFits
-    (figuresOf (k .before .before .used-at .ensures i) (k .before .promised-at .ensures i) (k .code-at .ensures i))
-    ((k .before .before .before .before .before .word-at .ensures ∙ clock-read (part k)) i)
-    ((k .before .before .before .before .word-at2 .ensures ∙ next-read (part k)) i) x
+fits k x =
+    let s = part k in
+    (λ i.
+    activeBy ((k .most-errors .ensures ∙ (λ j. mostErrors (k .before .before .used-at .ensures j .limit) (k .before .promised-at .ensures j .limit))) i)
+    ((k .before .before .before .before .before .word-at .ensures ∙ clock-read s) i)
+    ((k .before .before .before .before .word-at2 .ensures ∙ next-read s) i) x)
+    ∙ active-is (figuresIn (decode s)) (decode s .clock) (decode s .next) (k .before .before .before .before .before .before .before .pre .1 .1) x
 
 -- A turn: the claim read at i, and those behind it.
 turn : (k : Read) (i : ℕ) (x : Claim) → i < k .before .before .before .word-at3 .result →
@@ -139,8 +139,8 @@ used-at-requires c κs = search needs
 promised-at-requires : tie.Need-promised-at-requires Inv μ
 promised-at-requires c κs = search needs
 
-code-at-requires : tie.Need-code-at-requires Inv μ
-code-at-requires c κs = search needs
+most-errors-requires : tie.Need-most-errors-requires Inv μ
+most-errors-requires c κs = tt
 
 loop-holds : tie.Need-loop-holds Inv μ
 loop-holds c = (omega arith, omega arith, omega arith, refl, refl, refl, λ h. refl)
@@ -150,13 +150,11 @@ active-at-requires c κs =
     let k = c .before .before in
     (long k, omega (arith, c .loop-test .taken, count k, row k .few))
 
+slice-aggregate-active-fits : tie.Need-slice-aggregate-active-fits Inv μ
+slice-aggregate-active-fits c = search needs
+
 active-fits-requires : tie.Need-active-fits-requires Inv μ
-active-fits-requires c κs =
-    let k = c .before .before .before in
-    let l = limits (figuresIn (decode (part k))) _ _ (k .before .before .before .before .before .before .before .pre .1 .1) in
-    let used = k .before .before .used-at .ensures in
-    let promised = k .before .promised-at .ensures in
-    (rw used (l .0), (rw promised (l .1), rw (k .code-at .ensures) (l .2)))
+active-fits-requires c κs = search needs
 
 failed-requires : tie.Need-failed-requires Inv μ
 failed-requires c κs = tt
@@ -168,7 +166,8 @@ lost P h e = never-true P (sym h ∙ e)
 returns : tie.Need-returns Inv μ
 returns c =
     let f = c .before in
-    let t = f .before .before .before in
+    let a = f .before .before .before in
+    let t = a .before in
     let l = t .before in
     let k = l .before in
     let s = part k in
@@ -177,7 +176,7 @@ returns c =
       r
           ∙ test-fails (activesTests d) 0
           (sym (every-not (row k) (fit s) (l .loop .i) (omega (arith, t .loop-test .taken, count k))
-          (there (fit s) (f .before .before .active-at .ensures)
+          (there (fit s) (a .active-at .ensures)
           (sym (f .before .active-fits .ensures ∙ fits k _) ∙ not-true _ (f .if1 .taken)))
           ∙ l .loop .inv .3)),
       (lost _ r, lost _ r),
@@ -188,7 +187,7 @@ add-part-requires c κs = tt
 
 add-adds : tie.Need-add-adds Inv μ
 add-adds c =
-    let t = c .before .before .before .before in
+    let t = c .before .before .before .before .before in
     let l = t .before in
     let k = l .before in
     record { fits = omega (arith, l .loop .inv .0, l .loop .inv .1, count k, row k .few, t .loop-test .taken, c .add-part .ensures .1) }
@@ -201,18 +200,18 @@ bit-of-requires c κs = tt
 
 add-i : tie.Need-add-i Inv μ
 add-i c =
-    let t = c .before .before .before .before .before .before in
+    let t = c .before .before .before .before .before .before .before in
     let k = t .before .before in
     record { fits = omega (arith, t .loop-test .taken, count k, row k .few) }
 
 loop-less : tie.Need-loop-less Inv μ
-loop-less c = omega (arith, c .before .before .before .before .before .before .loop-test .taken)
+loop-less c = omega (arith, c .before .before .before .before .before .before .before .loop-test .taken)
 
 loop-again : tie.Need-loop-again Inv μ
 loop-again c =
     let o = c .before in
     let p = o .before in
-    let a = p .before .before .before in
+    let a = p .before .before .before .before in
     let t = a .before in
     let l = t .before in
     let k = l .before in
@@ -292,9 +291,10 @@ actives-fit-spec =
     cast-n
     used-at-requires
     promised-at-requires
-    code-at-requires
+    most-errors-requires
     loop-holds
     active-at-requires
+    slice-aggregate-active-fits
     active-fits-requires
     failed-requires
     returns

@@ -7,40 +7,28 @@ use borrow.Author.Tests.{not-true, not-false}
 use mir.Facts.{toZ-ofZ}
 use lib.Dec.{leb}
 use Rattle.num.specs.Metric.{size}
-use Rattle.law.specs.Base.{allTrue}
-use Rattle.law.specs.Types.{Figures}
 use Rattle.law.specs.Says.{_and_}
-use Rattle.lock.specs.Methods.{figuresOf}
-use Rattle.sound.specs.Tests.{activeFits}
+use Rattle.sound.specs.Tests.{activeFront, amountTest, activeBy}
 use Rattle.sound.proofs.TestLaws.{test-fails, test-last, above, within}
-use Rattle.sound.proofs.AloneLaws.{activeFront, amountFits, active-is}
 use Rattle.sound.proofs.alone.active_fits.Statement.{statement}
 use Rattle.sound.proofs.alone.active_fits.Tie as tie
 
--- At the start: the figures, the tests but the last, all tests, and that they are the law's.
-module _ (s : tie.Start) where
-  abbrev figures : Figures
-  figures = figuresOf (s .args .used) (s .args .promised) (s .args .state)
+-- At the start: the tests but the last, and all.
+abbrev front : tie.Start → List Bool
+front s = let a = s .args in activeFront (a .most .now) (a .clock) (a .next) (a .c)
 
-  abbrev front : List Bool
-  front = activeFront figures (s .args .clock) (s .args .next) (s .args .c)
+abbrev tests : tie.Start → List Bool
+tests s = front s ++ (amountTest (s .args .c) ∷ [])
 
-  abbrev last : Bool
-  last = amountFits figures (s .args .clock) (s .args .next) (s .args .c)
-
-  law : allTrue (front ++ (last ∷ [])) ≡ activeFits figures (s .args .clock) (s .args .next) (s .args .c)
-  law = active-is figures (s .args .clock) (s .args .next) (s .args .c) (s .pre .0) (s .pre .1 .0) (s .pre .1 .1)
-
-size-is : (c : tie.After-size) → let a = c .before .before .before .before .before .args in c .size .result ≡ size (a .c .told)
+size-is : (c : tie.After-size) → let a = c .before .before .before .before .before .before .args in c .size .result ≡ size (a .c .told)
 size-is c = rw (toZ-ofZ (record { sfits = c .before .struct-told .given .1 .1 .1 .1 .1 .1 .1 .0 .1 })) at (c .size .ensures .0)
 
 alone-requires : tie.Need-alone-requires
 alone-requires c κs = search needs
 
 returns : tie.Need-returns
-returns c =
-    let s = c .before .before in
-    test-fails (front s ++ (last s ∷ [])) 0 (sym (c .before .alone .ensures) ∙ not-true _ (c .if1 .taken)) ∙ law s
+unfolding activeBy
+returns c = test-fails (tests (c .before .before .before)) 0 (sym (c .before .alone .ensures) ∙ not-true _ (c .if1 .taken))
 
 if-reading-requires : tie.Need-if-reading-requires
 if-reading-requires c κs = search needs
@@ -49,24 +37,25 @@ size-requires : tie.Need-size-requires
 size-requires c κs = search needs
 
 returns-2 : tie.Need-returns-2
+unfolding activeBy
 returns-2 c =
-    let s = c .before .before .before .before .before .before in
-    test-fails (front s ++ (last s ∷ [])) 1 (above _ _ _ _ (size-is (c .before)) (c .before .before .before .if-reading .ensures) (c .if2 .taken)) ∙ law s
+    test-fails (tests (c .before .before .before .before .before .before .before)) 1
+    (above _ _ _ _ (size-is (c .before)) (c .before .before .before .if-reading .ensures) (c .if2 .taken))
 
 if-reading-requires-2 : tie.Need-if-reading-requires-2
 if-reading-requires-2 c κs = search needs
 
 returns-3 : tie.Need-returns-3
+unfolding activeBy
 returns-3 c =
     let told = c .before .before in
     let alone = told .before .before .before .before in
-    let s = alone .before .before in
+    let s = alone .before .before .before in
     ap (leb (s .args .c .amount)) (c .before .if-reading2 .ensures)
-    ∙ test-last (front s) (last s)
+    ∙ test-last (front s) (amountTest (s .args .c))
     (sym (alone .before .alone .ensures) ∙ not-false _ (alone .if1 .left)
     and within _ _ _ _ (size-is (told .before)) (told .before .before .before .if-reading .ensures) (told .if2 .left)
     and tt)
-    ∙ law s
 
 pub active-fits-spec : {M : Type 1} → statement M
 active-fits-spec =

@@ -2,10 +2,11 @@
 use Prim.Native.Nat.{_^_, _<_}
 use mathlib.Core.Bool.{Bool}
 use mathlib.Core.List.{List}
-use mathlib.Core.Path.{_≡_, refl, ap, sym, _∙_}
+use mathlib.Core.Path.{refl, ap, sym, _∙_}
 use borrow.Author.Needs.{needs}
 use borrow.Author.Tests.{lt-leb, le-leb, lt-ltb, le-ltb}
 use lib.Dec.{leb}
+use lib.ListN.{getD}
 use lib.Signed.{mag}
 use Rattle.law.specs.Entries.{kindOf}
 use Rattle.law.specs.Says.{_and_}
@@ -18,17 +19,19 @@ use Rattle.sound.proofs.alone.alone.Tie as tie
 
 -- All tests of the claim, at the start.
 abbrev tests : tie.Start → List Bool
-tests s = let a = s .args in aloneTests (a .used) (a .promised) (a .clock) (a .next) (kindOf diskTable (a .c)) (a .c)
+tests s =
+    let a = s .args in
+    aloneTests (getD (a .most .now) (a .c .method) 0) (a .clock) (a .next) (kindOf diskTable (a .c)) (a .c)
 
 -- The start, from behind the fourth to the sixth test.
 abbrev from4 : tie.Else4 → tie.Start
-from4 k = k .before .before .before .before .before .before .before .before
+from4 k = k .before .before .before .before .before .before .before .before .before
 
 abbrev from5 : tie.Else5 → tie.Start
 from5 k = from4 (k .before .before .before)
 
 abbrev from6 : tie.Else6 → tie.Start
-from6 k = from5 (k .before .before .before)
+from6 k = from5 (k .before .before .before .before)
 
 -- The value is one of 32 bits.
 in-word : (s : tie.Start) → mag (s .args .c .value) < 2 ^ 31
@@ -36,19 +39,19 @@ in-word s = s .good .0 .1 .1 .1 .1 .1 .1 .1 .0 .1
 
 returns : tie.Need-returns
 unfolding aloneFits
-returns c = test-fails (tests (c .before .before)) 0 (le-ltb _ _ (c .if1 .taken))
+returns c = test-fails (tests (c .before .before .before)) 0 (le-ltb _ _ (c .if1 .taken))
 
 returns-2 : tie.Need-returns-2
 unfolding aloneFits
-returns-2 c = test-fails (tests (c .before .before .before .before)) 1 (lt-leb _ _ (c .if2 .taken))
+returns-2 c = test-fails (tests (c .before .before .before .before .before)) 1 (lt-leb _ _ (c .if2 .taken))
 
 returns-3 : tie.Need-returns-3
 unfolding aloneFits
-returns-3 c = test-fails (tests (c .before .before .before .before .before .before)) 2 (le-ltb _ _ (c .if3 .taken))
+returns-3 c = test-fails (tests (c .before .before .before .before .before .before .before)) 2 (le-ltb _ _ (c .if3 .taken))
 
 returns-4 : tie.Need-returns-4
 unfolding aloneFits
-returns-4 c = test-fails (tests (c .before .before .before .before .before .before .before .before)) 3 (lt-leb _ _ (c .if4 .taken))
+returns-4 c = test-fails (tests (c .before .before .before .before .before .before .before .before .before)) 3 (lt-leb _ _ (c .if4 .taken))
 
 most-value-requires : tie.Need-most-value-requires
 most-value-requires c κs = search needs
@@ -65,13 +68,19 @@ returns-5 c =
     (sym (value-is (kindOf diskTable (s .args .c)) (s .args .c .value) (in-word s))
     ∙ above _ _ _ _ (v .value-size .ensures) (v .before .most-value .ensures) (c .if5 .taken))
 
-most-error-requires : tie.Need-most-error-requires
-most-error-requires c κs = search needs
+cast-m : tie.Need-cast-m
+cast-m c = search needs
+
+mul-if6 : tie.Need-mul-if6
+mul-if6 c = search needs
+
+shared-slice-read-if6 : tie.Need-shared-slice-read-if6
+shared-slice-read-if6 c = search needs
 
 returns-6 : tie.Need-returns-6
 unfolding aloneFits
 returns-6 c =
-    test-fails (tests (from5 (c .before .before .before))) 5 (above _ _ _ _ refl (c .before .before .most-error .ensures) (c .if6 .taken))
+    test-fails (tests (from5 (c .before .before .before .before))) 5 (lt-leb _ _ (c .if6 .taken))
 
 if-reading-requires : tie.Need-if-reading-requires
 if-reading-requires c κs = search needs
@@ -89,23 +98,23 @@ unfolding aloneFits
 returns-8 c =
     let measured = c .before .before in
     let error = measured .before .before .before in
-    let value = error .before .before .before in
+    let value = error .before .before .before .before in
     let priority = value .before .before .before in
     let below = priority .before .before in
     let first = below .before .before in
     let method = first .before .before in
-    let s = method .before .before in
+    let s = method .before .before .before in
     let a = s .args in
     let k = kindOf diskTable (a .c) in
     ap (leb (a .c .flag)) (c .before .if-reading2 .ensures)
-    ∙ test-last (aloneFront (a .used) (a .promised) (a .clock) (a .next) k (a .c)) (flagTest k (a .c))
+    ∙ test-last (aloneFront (getD (a .most .now) (a .c .method) 0) (a .clock) (a .next) k (a .c)) (flagTest k (a .c))
     (lt-ltb _ _ (method .if1 .left)
     and le-leb _ _ (first .if2 .left)
     and lt-ltb _ _ (below .if3 .left)
     and le-leb _ _ (priority .if4 .left)
     and sym (value-is k (a .c .value) (in-word s))
     ∙ within _ _ _ _ (value .before .value-size .ensures) (value .before .before .most-value .ensures) (value .if5 .left)
-    and within _ _ _ _ refl (error .before .before .most-error .ensures) (error .if6 .left)
+    and le-leb _ _ (error .if6 .left)
     and within _ _ _ _ refl (measured .before .before .if-reading .ensures) (measured .if7 .left)
     and tt)
 
@@ -120,7 +129,9 @@ alone-spec =
     most-value-requires
     value-size-requires
     returns-5
-    most-error-requires
+    cast-m
+    mul-if6
+    shared-slice-read-if6
     returns-6
     if-reading-requires
     returns-7

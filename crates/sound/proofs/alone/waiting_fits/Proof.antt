@@ -7,59 +7,48 @@ use borrow.Author.Tests.{eq-eqb, ne-eqb, not-true, not-false}
 use mir.Facts.{toZ-ofZ}
 use lib.Dec.{eqb}
 use Rattle.num.specs.Metric.{size}
-use Rattle.law.specs.Base.{allTrue}
-use Rattle.law.specs.Types.{Figures}
 use Rattle.law.specs.Says.{_and_}
-use Rattle.lock.specs.Methods.{figuresOf}
-use Rattle.sound.specs.Tests.{waitingFits}
+use Rattle.sound.specs.Tests.{waitingFront, waitingBy}
 use Rattle.sound.proofs.TestLaws.{test-fails, test-last}
-use Rattle.sound.proofs.AloneLaws.{waitingFront, waiting-is}
 use Rattle.sound.proofs.alone.waiting_fits.Statement.{statement}
 use Rattle.sound.proofs.alone.waiting_fits.Tie as tie
 
--- At the start: the figures, the tests but the last, all tests, and that they are the law's.
-module _ (s : tie.Start) where
-  abbrev figures : Figures
-  figures = figuresOf (s .args .used) (s .args .promised) (s .args .state)
+-- At the start: the tests but the last, and all.
+abbrev front : tie.Start → List Bool
+front s = let a = s .args in waitingFront (a .most .now) (a .clock) (a .next) (a .c)
 
-  abbrev front : List Bool
-  front = waitingFront figures (s .args .clock) (s .args .next) (s .args .c)
+abbrev tests : tie.Start → List Bool
+tests s = front s ++ (eqb (s .args .c .amount) 0 ∷ [])
 
-  abbrev last : Bool
-  last = eqb (s .args .c .amount) 0
-
-  law : allTrue (front ++ (last ∷ [])) ≡ waitingFits figures (s .args .clock) (s .args .next) (s .args .c)
-  law = waiting-is figures (s .args .clock) (s .args .next) (s .args .c) (s .pre .0) (s .pre .1 .0) (s .pre .1 .1)
-
-size-is : (c : tie.After-size) → let a = c .before .before .before .before .args in c .size .result ≡ size (a .c .told)
+size-is : (c : tie.After-size) → let a = c .before .before .before .before .before .args in c .size .result ≡ size (a .c .told)
 size-is c = rw (toZ-ofZ (record { sfits = c .before .struct-told .given .1 .1 .1 .1 .1 .1 .1 .0 .1 })) at (c .size .ensures .0)
 
 alone-requires : tie.Need-alone-requires
 alone-requires c κs = search needs
 
 returns : tie.Need-returns
-returns c =
-    let s = c .before .before in
-    test-fails (front s ++ (last s ∷ [])) 0 (sym (c .before .alone .ensures) ∙ not-true _ (c .if1 .taken)) ∙ law s
+unfolding waitingBy
+returns c = test-fails (tests (c .before .before .before)) 0 (sym (c .before .alone .ensures) ∙ not-true _ (c .if1 .taken))
 
 size-requires : tie.Need-size-requires
 size-requires c κs = search needs
 
 returns-2 : tie.Need-returns-2
+unfolding waitingBy
 returns-2 c =
-    let s = c .before .before .before .before .before in
-    test-fails (front s ++ (last s ∷ [])) 1 (ne-eqb _ _ (λ e. c .if2 .taken (size-is (c .before) ∙ e))) ∙ law s
+    test-fails (tests (c .before .before .before .before .before .before)) 1
+    (ne-eqb _ _ (λ e. c .if2 .taken (size-is (c .before) ∙ e)))
 
 returns-3 : tie.Need-returns-3
+unfolding waitingBy
 returns-3 c =
     let told = c .before in
     let alone = told .before .before .before in
-    let s = alone .before .before in
-    test-last (front s) (last s)
+    let s = alone .before .before .before in
+    test-last (front s) (eqb (s .args .c .amount) 0)
     (sym (alone .before .alone .ensures) ∙ not-false _ (alone .if1 .left)
     and eq-eqb _ _ (sym (size-is (told .before)) ∙ told .if2 .left)
     and tt)
-    ∙ law s
 
 pub waiting-fits-spec : {M : Type 1} → statement M
 waiting-fits-spec = tie.close (tie.spec alone-requires returns size-requires returns-2 returns-3)

@@ -2,7 +2,7 @@
 -- says what the mask handed in says of them all.
 use borrow.Author.Needs.{needs}
 use Prim.Native.Nat.{ℕ, _+_, _-_, _<_, _≤_}
-use mathlib.Core.Bool.{Bool, true}
+use mathlib.Core.Bool.{Bool}
 use mathlib.Core.List.{List, _∷_}
 use mathlib.Core.Path.{_≡_, refl, sym, ap, _∙_}
 use native.Mathlib.Omega.{arith}
@@ -11,16 +11,15 @@ use lib.ListN.{length, drop, getD}
 use Rattle.law.specs.declared.Claim.{Claim}
 use Rattle.law.specs.Base.{everyOf}
 use Rattle.law.specs.Lists.{never-true}
-use Rattle.lock.specs.Methods.{figuresOf}
 use Rattle.rules.specs.Disks.{figuresIn}
 use Rattle.part.specs.Layout.{decode}
 use Rattle.claims.specs.Rows.{Row, noClaim}
 use Rattle.claims.specs.RowLaws.{left-on, left-end, every-on, every-not, every-end}
-use Rattle.sound.specs.Tests.{waitingFits}
+use Rattle.sound.specs.Tests.{waitingFits, mostErrors, waitingBy}
 use Rattle.sound.specs.Seen.{free}
 use Rattle.sound.proofs.WalkLaws.{there}
 use Rattle.sound.proofs.TicketLaws.{none-before, free-on, free-end}
-use Rattle.sound.proofs.AloneLaws.{limits}
+use Rattle.sound.proofs.AloneLaws.{waiting-is}
 use Rattle.sound.proofs.DiskLaws.{waitings, clock-read, next-read, waitings-read, good}
 use Rattle.sound.proofs.waiting.waitings_fit.Statement.{statement}
 use Rattle.sound.proofs.waiting.waitings_fit.Tie as tie
@@ -33,12 +32,12 @@ abbrev left : List ℕ → ℕ → List Claim
 left s i = drop i (waitings (decode s))
 
 abbrev Inv : tie.InvT-loop
-Inv s tickets again m clock next used promised state mask₀ met₀ i₀ mask met i =
+Inv s tickets again m clock next most mask₀ met₀ i₀ mask met i =
     (everyOf (fit s) (left s i) ≡ everyOf (fit s) (waitings (decode s)))
     × (met ≡ 0 → (again ≡ 0) × (free mask (left s i) ≡ free tickets (waitings (decode s))))
 
 abbrev μ : tie.MeasureT-loop
-μ s tickets again m clock next used promised state mask₀ met₀ i₀ mask met i = m - i
+μ s tickets again m clock next most mask₀ met₀ i₀ mask met i = m - i
 
 -- The place where the count is read, and the part there.
 abbrev Counted : Type 0
@@ -56,24 +55,25 @@ count k = k .word-at .ensures ∙ waitings-read (part k)
 row : (k : Counted) → Row (decode (part k) .waiting) (decode (part k) .waitings)
 row k = good (part k) (long k) (k .before .before .pre .1 .0) .waiting
 
--- The place where the figures are read, and the count before it.
+-- The place where the figures are read and the row is made, and the count before it.
 abbrev Read : Type 0
-Read = tie.After-code-at Inv μ
+Read = tie.After-most-errors Inv μ
 
 abbrev counted : Read → Counted
 counted k = k .before .before .before .before .before .before
 
--- The test of a claim with the figures read is that with the disk's.
+-- The test of a claim with the limits read is that with the disk's figures.
 fits : (k : Read) (x : Claim) →
-    waitingFits
-    (figuresOf (k .before .before .used-at .result) (k .before .promised-at .result) (k .code-at .result))
+    waitingBy (k .most-errors .result)
     (k .before .before .before .before .word-at2 .result) (k .before .before .before .word-at3 .result) x
     ≡ fit (part (counted k)) x
-fits k x i =
-    waitingFits
-    (figuresOf (k .before .before .used-at .ensures i) (k .before .promised-at .ensures i) (k .code-at .ensures i))
-    ((k .before .before .before .before .word-at2 .ensures ∙ clock-read (part (counted k))) i)
-    ((k .before .before .before .word-at3 .ensures ∙ next-read (part (counted k))) i) x
+fits k x =
+    let s = part (counted k) in
+    (λ i.
+    waitingBy ((k .most-errors .ensures ∙ (λ j. mostErrors (k .before .before .used-at .ensures j .limit) (k .before .promised-at .ensures j .limit))) i)
+    ((k .before .before .before .before .word-at2 .ensures ∙ clock-read s) i)
+    ((k .before .before .before .word-at3 .ensures ∙ next-read s) i) x)
+    ∙ waiting-is (figuresIn (decode s)) (decode s .clock) (decode s .next) (counted k .before .before .pre .1 .1) x
 
 -- A turn: the claim read at i, and those behind it.
 turn : (k : Counted) (i : ℕ) (x : Claim) → i < k .word-at .result →
@@ -105,8 +105,8 @@ used-at-requires c κs = search needs
 promised-at-requires : tie.Need-promised-at-requires Inv μ
 promised-at-requires c κs = search needs
 
-code-at-requires : tie.Need-code-at-requires Inv μ
-code-at-requires c κs = search needs
+most-errors-requires : tie.Need-most-errors-requires Inv μ
+most-errors-requires c κs = tt
 
 loop-holds : tie.Need-loop-holds Inv μ
 loop-holds c = (refl, λ h. (h, refl))
@@ -116,22 +116,21 @@ waiting-at-requires c κs =
     let k = counted (c .before .before) in
     (long k, omega (arith, c .loop-test .taken, count k, row k .few))
 
+slice-aggregate-waiting-fits : tie.Need-slice-aggregate-waiting-fits Inv μ
+slice-aggregate-waiting-fits c = search needs
+
 waiting-fits-requires : tie.Need-waiting-fits-requires Inv μ
-waiting-fits-requires c κs =
-    let k = c .before .before .before in
-    let l = limits (figuresIn (decode (part (counted k)))) _ _ (counted k .before .before .pre .1 .1) in
-    let used = k .before .before .used-at .ensures in
-    let promised = k .before .promised-at .ensures in
-    (rw used (l .0), (rw promised (l .1), rw (k .code-at .ensures) (l .2)))
+waiting-fits-requires c κs = search needs
 
 returns-2 : tie.Need-returns-2 Inv μ
 returns-2 c =
-    let t = c .before .before .before in
+    let a = c .before .before .before in
+    let t = a .before in
     let l = t .before in
     let k = counted (l .before) in
     let s = part k in (
       every-not (row k) (fit s) (l .loop .i) (omega (arith, t .loop-test .taken, count k))
-          (there (fit s) (c .before .before .waiting-at .ensures)
+          (there (fit s) (a .waiting-at .ensures)
           (sym (c .before .waiting-fits .ensures ∙ fits (l .before) _) ∙ not-true _ (c .if2 .taken)))
           ∙ l .loop .inv .0,
       λ h. never-true _ h,
@@ -142,16 +141,16 @@ bit-of-requires c κs = tt
 
 add-i : tie.Need-add-i Inv μ
 add-i c =
-    let t = c .before .before .before .before in
+    let t = c .before .before .before .before .before in
     let k = counted (t .before .before) in
     record { fits = omega (arith, t .loop-test .taken, count k, row k .few) }
 
 loop-less : tie.Need-loop-less Inv μ
-loop-less c = omega (arith, c .before .before .before .before .loop-test .taken)
+loop-less c = omega (arith, c .before .before .before .before .before .loop-test .taken)
 
 loop-again : tie.Need-loop-again Inv μ
 loop-again c =
-    let a = c .before .before .before in
+    let a = c .before .before .before .before in
     let t = a .before in
     let l = t .before in
     let k = counted (l .before) in
@@ -192,9 +191,10 @@ waitings-fit-spec =
     word-at-requires-3
     used-at-requires
     promised-at-requires
-    code-at-requires
+    most-errors-requires
     loop-holds
     waiting-at-requires
+    slice-aggregate-waiting-fits
     waiting-fits-requires
     returns-2
     bit-of-requires
