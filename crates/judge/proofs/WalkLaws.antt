@@ -5,7 +5,7 @@ use mathlib.Core.List.{List, [], _∷_}
 use mathlib.Core.Path.{_≡_, refl, sym, ap, _∙_}
 use native.Mathlib.Numerals.{add-one}
 use native.Mathlib.Omega.{arith}
-use lib.Bits.{bitAnd, bitOr}
+use lib.Bits.{bitAnd}
 use lib.Dec.{leb}
 use lib.ListN.{length, take, drop, getD, drop-of-length-le}
 use lib.Seq.{length-take-le, drop-cons, getD-take}
@@ -19,10 +19,9 @@ use Rattle.law.specs.Entries.{kindAt, kindOf, entryBy, entry, isAlways, isNever
 use Rattle.law.specs.Lists.{All, all-say, never-true, sum-zero}
 use Rattle.law.specs.Granting.{limitBy, gapBy, costBy, raisesBy, start, cost, stays, total, lockStep}
 use Rattle.law.specs.DiskType.{diskTable}
-use Rattle.claims.specs.Rows.{Row, noClaim}
-use Rattle.claims.specs.RowLaws.{left-on, left-end}
+use Rattle.claims.specs.Rows.{noClaim}
 use Rattle.lock.specs.Methods.{isReading}
-use Rattle.lock.specs.Masks.{methodBit, methodsFrom, methodsOf, otherMask}
+use Rattle.lock.specs.Masks.{methodsOf, otherMask}
 use Rattle.lock.specs.Pairs.{coreOf, letsBy, costOn, costBetween, raiseOf, barsBy}
 use Rattle.lock.proofs.MaskLaws.{all-always}
 use Rattle.judge.specs.Decisions.{letsOf, costOf, barsAt}
@@ -154,18 +153,6 @@ pub bars-at : (f : Figures) (now sum priority m : ℕ) (w : Claim) {e : Entry} {
     b ≡ barsBy f now sum priority e w → b ≡ barsAt f now sum priority m w
 unfolding barsAt
 bars-at f now sum priority m w h b = rw h at b
-
--- ---- the methods of the active claims
-
-module _ {a : List Claim} {n : ℕ} (r : Row a n) (mask i : ℕ) where
-  pub methods-turn : i < n →
-      methodsFrom (bitOr mask (methodBit (getD a i noClaim .method))) (drop (i + 1) (take n a)) ≡ methodsFrom mask (drop i (take n a))
-  unfolding methodsFrom
-  methods-turn h = ap (methodsFrom mask) (sym (left-on r i h))
-
-  pub methods-end : n ≤ i → mask ≡ methodsFrom mask (drop i (take n a))
-  unfolding methodsFrom
-  methods-end h = ap (methodsFrom mask) (sym (left-end r i h))
 
 -- Claims whose entry with c is A let it pass, and add nothing.
 module _ (f : Figures) (c : Claim) where

@@ -99,7 +99,7 @@ and-power mask m =
     ap (bitAnd mask) (sym twice) ∙ and-high mask 1 m
 
 -- To share something is to have the bit.
-shares-bit : (mask m : ℕ) → shares mask (2 ^ m) ≡ hasBit mask m
+pub shares-bit : (mask m : ℕ) → shares mask (2 ^ m) ≡ hasBit mask m
 unfolding hasBit
 shares-bit mask m = rw (and-power mask m) (by-digit (mask / 2 ^ m % 2) (omega arith))
   where

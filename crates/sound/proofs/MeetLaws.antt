@@ -13,11 +13,11 @@ use Rattle.law.specs.Lists.{All, Pairs, all-both, never-true}
 use Rattle.law.specs.DiskType.{diskTable}
 use Rattle.lock.specs.Masks.{methodBit, methodsFrom, methodsOf, rowsTo, neverMask, twiceFrom, twiceOf, shares}
 use Rattle.lock.proofs.MethodLaws.{method-cases, method-past}
-use Rattle.lock.proofs.MaskLaws.{methods-each, never-bit}
+use Rattle.lock.proofs.MaskLaws.{here, methods-each, never-bit}
+use Rattle.lock.proofs.LeftLaws.{shares-bit}
 use Rattle.sound.specs.Tests.{meets}
 use Rattle.sound.specs.Seen.{mayClash}
 use Rattle.sound.proofs.WalkLaws.{says-two-by-two}
-use Rattle.sound.proofs.TicketLaws.{bit-unmet}
 
 -- ---- a turn: the masks with the method of the claim x
 
@@ -53,12 +53,8 @@ both-true true b h k = k
 both-true false b h k = h
 
 -- The bit of a method that there is, is its own.
-own-there : (mask : ℕ) (c : Claim) → c .method < 7 → hasBit (bitOr mask (methodBit (c .method))) (c .method) ≡ true
-unfolding methodsFrom
-own-there mask c h = methods-each mask (c ∷ []) .0 h
-
 own-set : (c : Claim) → c .method < 7 → hasBit (methodBit (c .method)) (c .method) ≡ true
-own-set c h = ap (λ (x : ℕ). hasBit x (c .method)) (sym (or-zero-l (methodBit (c .method)))) ∙ own-there 0 c h
+own-set c h = ap (λ (x : ℕ). hasBit x (c .method)) (sym (or-zero-l (methodBit (c .method)))) ∙ here (c .method) h 0
 
 mask-kept : (m n r : ℕ) → hasBit m r ≡ true → hasBit (bitOr m n) r ≡ true
 mask-kept m n r h = bit-either m n r ∙ either-left (hasBit m r) (hasBit n r) h
@@ -94,7 +90,7 @@ twice-each twice mask [] a = tt
 twice-each twice mask (w ∷ ws) a =
     let own = methodBit (w .method) in
     let more = bitOr twice (bitAnd mask own) in (
-      twice-met (w .method) more (bitOr mask own) ws (own-there mask w (a .0)) (a .1),
+      twice-met (w .method) more (bitOr mask own) ws (here (w .method) (a .0) mask) (a .1),
       twice-each more (bitOr mask own) ws (a .1),
     )
 
@@ -114,11 +110,7 @@ none-both false b k e = refl
 
 -- A mask with bit a shares it; one that shares nothing with another has none of its bits.
 shared : (mask a : ℕ) → hasBit mask a ≡ true → shares mask (2 ^ a) ≡ true
-shared mask a e = go (eqb (bitAnd mask (2 ^ a)) 0) refl
-  where
-    go : (b : Bool) → eqb (bitAnd mask (2 ^ a)) 0 ≡ b → not b ≡ true
-    go true q = never-true _ (sym (bit-unmet mask a (eqb-true (bitAnd mask (2 ^ a)) 0 q)) ∙ e)
-    go false q = refl
+shared mask a e = shares-bit mask a ∙ e
 
 unshared : (mask n r : ℕ) → shares mask n ≡ false → hasBit mask r ≡ true → hasBit n r ≡ false
 unshared mask n r k e = go (eqb (bitAnd mask n) 0) refl k

@@ -9,7 +9,6 @@ use borrow.Author.Tests.{ltb-true, leb-false, leb-true, eqb-true, lt-ltb, le-leb
 use lib.Dec.{leb, ltb}
 use lib.ListN.{length}
 use Rattle.num.specs.Metric.{size}
-use Rattle.law.specs.declared.Attr.{Attr}
 use Rattle.law.specs.declared.Claim.{Claim}
 use Rattle.law.specs.Base.{allTrue, everyOf}
 use Rattle.law.specs.Lists.{All, never-true, all-say, all-both, all-true, all-append, all-left, all-right, and-left, and-right, Passed, passed, all-passed, every-tests, sum-zero}

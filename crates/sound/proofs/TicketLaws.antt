@@ -4,26 +4,20 @@ use mathlib.Core.Bool.{Bool, true, false, not}
 use mathlib.Core.List.{List, [], _∷_}
 use mathlib.Core.Path.{_≡_, refl, sym, ap, _∙_}
 use borrow.Author.Tests.{eqb-true, not-true}
-use lib.Bits.{bitAnd, bitOr, or-zero-l}
+use lib.Bits.{bitAnd, bitOr}
 use lib.Dec.{eqb}
-use Rattle.num.specs.Bits.{hasBit, bit-set, bit-set-other, apart-bits, or-none}
+use Rattle.num.specs.Bits.{hasBit, bit-set, bit-set-other, or-none}
 use Rattle.law.specs.declared.Claim.{Claim}
 use Rattle.law.specs.Base.{everyPair}
 use Rattle.law.specs.Lists.{All, Pairs, all-say, never-true, and-left, and-right}
+use Rattle.lock.proofs.LeftLaws.{shares-bit}
 use Rattle.sound.specs.Tests.{apart}
 use Rattle.sound.specs.Seen.{bitOf, free}
 use Rattle.sound.proofs.WalkLaws.{says-two-by-two}
 
 -- A mask that shares nothing with a power of 2 has not its bit.
-pub bit-unmet : (mask a : ℕ) → bitAnd mask (2 ^ a) ≡ 0 → hasBit mask a ≡ false
-bit-unmet mask a h = go (hasBit mask a) refl
-  where
-    own : hasBit (2 ^ a) a ≡ true
-    own = ap (λ (x : ℕ). hasBit x a) (sym (or-zero-l (2 ^ a))) ∙ bit-set 0 a
-
-    go : (b : Bool) → hasBit mask a ≡ b → b ≡ false
-    go true e = sym own ∙ apart-bits mask (2 ^ a) a h e
-    go false e = refl
+bit-unmet : (mask a : ℕ) → bitAnd mask (2 ^ a) ≡ 0 → hasBit mask a ≡ false
+bit-unmet mask a h = sym (shares-bit mask a) ∙ ap (λ (x : ℕ). not (eqb x 0)) h
 
 -- A turn: where nothing has been met again with the claim x, nothing had been, and the mask with x's bit says of the rest what
 -- the mask said of x and the rest.

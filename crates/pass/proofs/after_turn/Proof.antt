@@ -1,6 +1,5 @@
 -- With the last one, or as it was handed in.
 use native.Mathlib.Omega.{arith}
-use borrow.Author.Needs.{needs}
 use Rattle.pass.proofs.after_turn.Statement.{statement}
 use Rattle.pass.proofs.after_turn.Tie as tie
 

@@ -1,5 +1,5 @@
 -- A claim put where it stands changes nothing; elsewhere its slot is put, as the disk's is.
-use Prim.Native.Nat.{ℕ, _+_}
+use Prim.Native.Nat.{ℕ}
 use mathlib.Core.List.{List}
 use mathlib.Core.Path.{_≡_, refl, sym, ap, _∙_, subst}
 use native.Mathlib.Omega.{arith}

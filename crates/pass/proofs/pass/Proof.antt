@@ -1,12 +1,10 @@
 -- What is left of the pass, over the disk so far, is the pass of the law: each turn keeps it, by PassLaws; and what the active claims
 -- come to is kept up to date.
 use Prim.Native.Nat.{ℕ, _+_, _-_, _*_, _≤_, _<_}
-use mathlib.Core.List.{List}
 use mathlib.Core.Path.{_≡_, sym, ap, _∙_, subst}
 use native.Mathlib.Omega.{arith}
 use borrow.Author.Needs.{needs}
 use lib.ListN.{length}
-use Rattle.law.specs.declared.Claim.{Claim}
 use Rattle.law.specs.Base.{sumOf}
 use Rattle.lock.specs.Masks.{methodsOf}
 use Rattle.lock.specs.Pairs.{addOf}

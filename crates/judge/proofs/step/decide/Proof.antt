@@ -1,15 +1,15 @@
 -- Four tests: where one fails the claim is not granted, by DecideLaws; where all pass, the total is the law's.
 use borrow.Author.Needs.{needs}
 use borrow.Author.Tests.{le-leb, lt-leb, not-true, not-false}
-use Prim.Native.Nat.{ℕ, _+_, _≤_, _<_}
-use mathlib.Core.Bool.{Bool, false, true}
+use Prim.Native.Nat.{_+_}
+use mathlib.Core.Bool.{false, true}
 use mathlib.Core.List.{List}
-use mathlib.Core.Path.{_≡_, refl, sym, ap, _∙_}
+use mathlib.Core.Path.{_≡_, sym, _∙_}
 use native.Mathlib.Omega.{arith}
 use lib.Dec.{leb}
 use lib.ListN.{length, take}
 use Rattle.law.specs.declared.Claim.{Claim}
-use Rattle.law.specs.Base.{anyOf, everyOf, sumOf}
+use Rattle.law.specs.Base.{anyOf}
 use Rattle.law.specs.Lists.{never-true}
 use Rattle.law.specs.Types.{a1, Figures}
 use Rattle.law.specs.Entries.{kindOf}
@@ -21,7 +21,7 @@ use Rattle.lock.specs.Pairs.{coreOf, addOf}
 use Rattle.rules.specs.declared.disk.Disk.{Disk}
 use Rattle.rules.specs.Disks.{figuresIn}
 use Rattle.part.specs.Layout.{decode}
-use Rattle.judge.specs.Decisions.{letsOf, costOf, barsOf, activesIn, DecidedIs}
+use Rattle.judge.specs.Decisions.{barsOf, activesIn, DecidedIs}
 use Rattle.judge.proofs.ReadLaws.{actives-read}
 use Rattle.judge.proofs.WalkLaws.{lock-not, lock-all, total-is}
 use Rattle.judge.proofs.DecideLaws.{not-fit, not-free, not-locked, not-placed, all-else, same-total, refusal}

@@ -1,6 +1,6 @@
 -- A method is less than 64, so its bit is the power of its number.
 use Prim.Native.Nat.{ℕ, _^_}
-use mathlib.Core.Path.{ap, sym, _∙_}
+use mathlib.Core.Path.{ap, _∙_}
 use native.Mathlib.Nat.{mod-eq-of-lt}
 use native.Mathlib.Omega.{arith}
 use borrow.Author.Tests.{lt-ltb, le-ltb}

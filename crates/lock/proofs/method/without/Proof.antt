@@ -1,8 +1,7 @@
 -- By whether the method is there twice; if not, the mask has its bit to take away.
-use Prim.Native.Nat.{ℕ}
 use mathlib.Core.Path.{ap, sym, _∙_}
 use native.Mathlib.Omega.{arith}
-use Rattle.lock.specs.Masks.{methodBit, shares, withoutOf}
+use Rattle.lock.specs.Masks.{shares, withoutOf}
 use Rattle.lock.proofs.method.without.Statement.{statement}
 use Rattle.lock.proofs.method.without.Tie as tie
 
