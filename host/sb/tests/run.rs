@@ -65,6 +65,73 @@ record 18, disk 64: refused 11, disk above 63
     assert_eq!(sb(&["run"], text).text(), words);
 }
 
+/// A board with disk 3 opened, on which the next ticket is another.
+fn with_next_ticket(folder: &Folder, next: u32) -> String {
+    let board = folder.file("opened");
+    sb(&["run", "--board", &board], "open 3 at 10 used-limit 10 promised-limit 10").fine();
+    let mut bytes = fs::read(board).unwrap();
+    bytes[64 + 768 * 3 + 4..][..4].copy_from_slice(&next.to_le_bytes());
+    folder.with(&format!("next-{next}"), bytes)
+}
+
+/// Every refusal but 9 can be tried: the last request of each row is refused so, with 01's sentence. 9 can't be, since every
+/// board that `sb` lends has its length; one of another length in a file is no board to it.
+#[test]
+fn every_refusal() {
+    let folder = Folder::new("refusals");
+    let open = "open 3 at 10 used-limit 10 promised-limit 10\n";
+    let full = [open, "claim 3 SetState 1 at 10\n", &"claim 3 ReadState at 10\n".repeat(9)].concat();
+    let then = |last: &str| [open, last].concat().into_bytes();
+    let new = folder.file("new");
+    for (request, board, line) in [
+        (
+            b"RB\x03\x03\x00\x00\x00".to_vec(),
+            &new,
+            "record 1: refused 10, record not 24 bytes, wrong mark or kind, flag over 1, an unused byte or byte 7 not zero",
+        ),
+        (then("claim 64 ReadState at 10"), &new, "record 2, disk 64: refused 11, disk above 63"),
+        (then(open), &new, "record 2, disk 3: refused 12, open of an open disk"),
+        (then("claim 4 ReadState at 10"), &new, "record 2, disk 4: refused 13, claim or release on a closed disk"),
+        (then("release 4 ticket 1 at 10"), &new, "record 2, disk 4: refused 13, claim or release on a closed disk"),
+        (
+            b"claim 3 ReadState at 10".to_vec(),
+            &with_next_ticket(&folder, 0),
+            "record 1, disk 3: refused 14, the disk's part isn't sound",
+        ),
+        (then("claim 3 ReadState at 9"), &new, "record 2, disk 3: refused 15, now below the disk's clock"),
+        (then("claim 3 7 at 10"), &new, "record 2, disk 3: refused 16, method above 6"),
+        (
+            then("claim 3 SetState 256 at 10"),
+            &new,
+            "record 2, disk 3: refused 17, a field out of range: values, errors, limits; a reading with value or second \
+             of measuring not 0; a write with the fresh flag, or measured after now",
+        ),
+        (
+            then("claim 3 ReportUsed 1 own 11 at 10"),
+            &new,
+            "record 2, disk 3: refused 18, a write whose own error exceeds its attribute's limit",
+        ),
+        (
+            b"claim 3 ReadState at 10\nclaim 3 ReadState at 10".to_vec(),
+            &with_next_ticket(&folder, 999_999),
+            "record 2, disk 3: refused 19, a claim with no ticket left",
+        ),
+        (full.into_bytes(), &new, "record 11, disk 3: refused 20, a claim that would wait while 8 wait"),
+        (
+            then("release 3 ticket 1 at 10"),
+            &new,
+            "record 2, disk 3: refused 21, release of a ticket neither active nor waiting",
+        ),
+    ] {
+        let said = sb(&["run", "--board", board], request).text();
+        let lines: Vec<&str> = said.lines().collect();
+        let (before, last) = lines.split_at(lines.len() - 2);
+        assert_eq!(last[0], line);
+        assert!(last[1].starts_with("    hint: ") && !before.iter().any(|line| line.contains("refused")), "{said}");
+        let _ = fs::remove_file(&new);
+    }
+}
+
 /// A day cut in two: the second run knows what the first one's tickets are for.
 #[test]
 fn a_board_goes_on() {

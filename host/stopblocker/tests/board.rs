@@ -2,7 +2,7 @@
 
 use stopblocker::layout::{ANSWER_BYTES, BOARD_BYTES, RECORD_BYTES};
 use stopblocker::{
-    Board, Claim, ClaimView, Disk, Figure, Item, Method, Open, Refusal, Release, Request, State, WrongLength,
+    step, Board, Claim, ClaimView, Disk, Figure, Item, Method, Open, Refusal, Release, Request, State, WrongLength,
 };
 
 fn disk(number: u8) -> Disk {
@@ -172,34 +172,148 @@ fn what_the_types_cannot_ask() {
     }
 }
 
+/// 01's "Exactly when", word by word.
+const EXACTLY_WHEN: [(u32, &str); 13] = [
+    (9, "board or answer buffer of another length; neither is touched"),
+    (10, "record not 24 bytes, wrong mark or kind, flag over 1, an unused byte or byte 7 not zero"),
+    (11, "disk above 63"),
+    (12, "open of an open disk"),
+    (13, "claim or release on a closed disk"),
+    (14, "the disk's part isn't sound (not for open)"),
+    (15, "now below the disk's clock (not for open)"),
+    (16, "method above 6 (claim)"),
+    (
+        17,
+        "a field out of range: values, errors, limits; a reading with value or second of measuring not 0; \
+         a write with the fresh flag, or measured after now",
+    ),
+    (18, "a write whose own error exceeds its attribute's limit"),
+    (19, "a claim with no ticket left"),
+    (20, "a claim that would wait while 8 wait"),
+    (21, "release of a ticket neither active nor waiting"),
+];
+
+/// What a refusal of that number has to say: 01's sentence, without the brackets, which say whom it is for.
+fn sentence(number: u32) -> &'static str {
+    let row = EXACTLY_WHEN.iter().find(|row| row.0 == number).expect("01 has it");
+    row.1.split(" (").next().unwrap()
+}
+
 #[test]
 fn every_refusal_says_its_sentence() {
-    let sentences = [
-        (9, "board or answer buffer of another length; neither is touched"),
-        (10, "record not 24 bytes, wrong mark or kind, flag over 1, an unused byte or byte 7 not zero"),
-        (11, "disk above 63"),
-        (12, "open of an open disk"),
-        (13, "claim or release on a closed disk"),
-        (14, "the disk's part isn't sound"),
-        (15, "now below the disk's clock"),
-        (16, "method above 6"),
-        (
-            17,
-            "a field out of range: values, errors, limits; a reading with value or second of measuring not 0; \
-             a write with the fresh flag, or measured after now",
-        ),
-        (18, "a write whose own error exceeds its attribute's limit"),
-        (19, "a claim with no ticket left"),
-        (20, "a claim that would wait while 8 wait"),
-        (21, "release of a ticket neither active nor waiting"),
-    ];
-    assert_eq!(sentences.len(), Refusal::ALL.len());
-    for ((number, sentence), refusal) in sentences.into_iter().zip(Refusal::ALL) {
+    for ((number, _), refusal) in EXACTLY_WHEN.into_iter().zip(Refusal::ALL) {
         assert_eq!(Refusal::of(number), Some(refusal));
-        assert_eq!((refusal.number(), refusal.to_string()), (number, sentence.to_string()));
+        assert_eq!((refusal.number(), refusal.to_string()), (number, sentence(number).to_string()));
         let _: &dyn std::error::Error = &refusal;
     }
     assert!([0, 1, 2, 3, 4, 8, 22, u32::MAX].into_iter().all(|number| Refusal::of(number).is_none()));
+}
+
+/// The typed call ends with that refusal and its sentence, and leaves the board.
+fn refused(board: &Board, request: impl Into<Request>, number: u32) {
+    let (request, mut after) = (request.into(), board.clone());
+    let refusal = match request {
+        Request::Open(open) => after.open(open).unwrap_err(),
+        Request::Claim(claim) => after.claim(claim).unwrap_err(),
+        Request::Release(release) => after.release(release).unwrap_err(),
+    };
+    assert_eq!((refusal.number(), refusal.to_string().as_str()), (number, sentence(number)), "{request:?}");
+    assert_eq!(after.call(request), Err(refusal));
+    assert_eq!(&after, board, "a refusal changes nothing on the board");
+}
+
+/// Each refusal that the types can ask for, 12 to 15 and 17 to 21, caused by hand.
+#[test]
+fn every_refusal_through_the_types() {
+    let d = disk(3);
+    let opened = |now: u32| {
+        let mut board = Board::new();
+        board.open(Open::new(d, now, 1_000, 500)).unwrap();
+        board
+    };
+    refused(&opened(0), Open::new(d, 0, 1_000, 500), 12);
+    refused(&Board::new(), Claim::read_used(d, 0, 0), 13);
+    refused(&Board::new(), Release::new(d, 0, 1), 13);
+
+    // the next ticket of a part is 1 or more
+    let mut bytes = opened(0).as_bytes().to_vec();
+    bytes[64 + 768 * 3 + 4] = 0;
+    let unsound = Board::from_bytes(&bytes).unwrap();
+    refused(&unsound, Claim::read_used(d, 0, 0), 14);
+    refused(&unsound, Release::new(d, 0, 1), 14);
+
+    refused(&opened(100), Claim::read_used(d, 99, 0), 15);
+    refused(&opened(100), Release::new(d, 99, 1), 15);
+
+    let (over_value, over_error) = (1_000_000_001, 2_000_000_001);
+    refused(&Board::new(), Open::new(d, 0, over_error, 0), 17);
+    refused(&Board::new(), Open::new(d, 0, 0, over_error), 17);
+    for claim in [
+        Claim::report_used(d, 7, over_value, 0),
+        Claim::add_promised(d, 7, -over_value, 0),
+        Claim::set_promised(d, 7, i32::MIN, 0),
+        Claim::report_used(d, 7, 0, over_error),
+        Claim::read_used(d, 7, over_error),
+        Claim::read_load(d, 7, u32::MAX),
+        Claim::read_state(d, 7).measured(7),
+        Claim::set_state(d, 7, 1).fresh(),
+        Claim::add_promised(d, 7, 1, 0).measured(8),
+    ] {
+        refused(&opened(0), claim, 17);
+    }
+
+    refused(&opened(0), Claim::report_used(d, 0, 1, 1_001), 18);
+    refused(&opened(0), Claim::add_promised(d, 0, 1, 501), 18);
+    refused(&opened(0), Claim::set_promised(d, 0, 1, 501), 18);
+
+    let mut full = opened(0);
+    full.claim(Claim::set_state(d, 0, 1)).unwrap();
+    for ticket in 2..=9 {
+        assert_eq!(full.claim(Claim::read_state(d, 0)).unwrap().waits().unwrap().ticket, ticket);
+    }
+    refused(&full, Claim::read_state(d, 0), 20);
+    refused(&full, Release::new(d, 0, 10), 21);
+    refused(&full, Release::new(d, 0, 0), 21);
+}
+
+/// 19, by calls alone: all 999,999 tickets are taken, and the last one is still released.
+#[test]
+fn every_ticket_of_a_disk() {
+    let d = disk(3);
+    let mut board = Board::new();
+    board.open(Open::new(d, 0, 0, 0)).unwrap();
+    for ticket in 1..=999_999 {
+        let granted = board.claim(Claim::read_state(d, 0)).unwrap().granted().expect("nobody writes the state");
+        assert_eq!(granted.ticket, ticket);
+        if ticket < 999_999 {
+            board.release(Release::new(d, 0, ticket)).unwrap();
+        }
+    }
+    refused(&board, Claim::read_state(d, 0), 19);
+    board.release(Release::new(d, 0, 999_999)).unwrap();
+    refused(&board, Claim::set_state(d, 0, 1), 19);
+    refused(&board, Release::new(d, 0, 1), 21);
+}
+
+/// The four that they cannot, by bytes: the number that `step` returns has its sentence.
+#[test]
+fn the_others_through_step() {
+    let mut board = vec![0; BOARD_BYTES];
+    let open = Open::new(disk(3), 0, 1_000, 500).record();
+    assert_eq!(step(&mut board, &open, &mut [0; ANSWER_BYTES]), 3);
+    let mut far = open;
+    far[3] = 64;
+    let mut method = Claim::read_state(disk(3), 0).record();
+    method[4] = 7;
+    for (number, bytes, record) in [
+        (9, BOARD_BYTES - 1, &open[..]),
+        (10, BOARD_BYTES, &open[..23]),
+        (11, BOARD_BYTES, &far),
+        (16, BOARD_BYTES, &method),
+    ] {
+        let code = step(&mut board[..bytes], record, &mut [0; ANSWER_BYTES]);
+        assert_eq!(Refusal::of(code).map(|refusal| refusal.to_string()).as_deref(), Some(sentence(number)));
+    }
 }
 
 #[test]

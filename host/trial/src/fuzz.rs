@@ -179,6 +179,14 @@ fn some_record(chance: &mut Chance, board: &[u8], board_len: usize) -> Vec<u8> {
     bytes
 }
 
+/// A run of so many has to see every code at least once.
+pub const SEES_ALL: u64 = 3_000_000;
+
+/// The codes that a call can end with, 0 to 3 and 9 to 21, of which these counts have none.
+pub fn unseen(codes: &[u64; 22]) -> Vec<usize> {
+    (0..=3).chain(9..=21).filter(|&code| codes[code] == 0).collect()
+}
+
 /// So many runs; how often each code came, or what is wrong in which run.
 pub fn fuzz(runs: u64, seed: u64, desk: Raw) -> Result<[u64; 22], String> {
     // SAFETY: the handler makes only calls that are safe there.

@@ -7,7 +7,7 @@ use std::os::raw::c_long;
 use std::process::exit;
 use trial::beside::{Proved, Step};
 use trial::filters::FILTERS;
-use trial::fuzz::{fuzz, step, Raw};
+use trial::fuzz::{self, step, unseen, Raw};
 use trial::overrun::OVERRUNS;
 use trial::program;
 use trial::shrink::shrink;
@@ -104,7 +104,7 @@ fn report(seed: u64, calls: u64, failure: Failure) {
 
 fn fuzzed(asked: &Asked, desk: Raw) -> bool {
     println!("fuzz: seed {}, {} runs", asked.seed, asked.fuzz);
-    match fuzz(asked.fuzz, asked.seed, desk) {
+    match fuzz::fuzz(asked.fuzz, asked.seed, desk) {
         Err(wrong) => {
             println!("fuzz: seed {}, {wrong}", asked.seed);
             false
@@ -114,7 +114,9 @@ fn fuzzed(asked: &Asked, desk: Raw) -> bool {
                 println!("{count:>12}  {code}");
             }
             println!("fuzz: seed {}, {} runs, nothing read or written outside, no difference", asked.seed, asked.fuzz);
-            true
+            let missing = unseen(&codes);
+            missing.iter().for_each(|code| println!("fuzz: not seen: code {code}"));
+            missing.is_empty() || asked.fuzz < fuzz::SEES_ALL
         }
     }
 }

@@ -1,4 +1,5 @@
-//! Desks that are wrong in one thing: the trial has to see each of them.
+//! Desks that are wrong: those that 01 names to try a promise against, and some that are wrong in one thing. The trial has to see
+//! each of them.
 
 use crate::beside::{Proved, Step};
 
@@ -6,6 +7,11 @@ use crate::beside::{Proved, Step};
 pub type Wrong = fn(&mut [u8], &[u8], &mut [u8]) -> u32;
 
 pub const WRONGS: &[(&str, Wrong)] = &[
+    ("refuses-all", refuses_all),
+    ("granted-ticket-1", granted_ticket_1),
+    ("does-nothing", does_nothing),
+    ("settles-at-once", settles_at_once),
+    ("amounts-invented", amounts_invented),
     ("amount-flipped", amount_flipped),
     ("part-flipped", part_flipped),
     ("other-part", other_part),
@@ -50,6 +56,60 @@ fn word(bytes: &[u8], at: usize) -> u32 {
 fn put_word(bytes: &mut [u8], at: usize, word: u32) {
     bytes[at..at + 4].copy_from_slice(&word.to_le_bytes());
 }
+
+/// The four words of an answer's item.
+fn put_item(answer: &mut [u8], k: usize, item: [u32; 4]) {
+    item.iter().enumerate().for_each(|(word, &figure)| put_word(answer, 16 * k + 4 * word, figure));
+}
+
+// "a desk that refuses all; one that always answers granted with ticket 1, or does nothing; one that settles everything in the
+// first call and then only hands out tickets; one with amounts invented"
+
+/// Every record is refused 10.
+fn refuses_all(board: &mut [u8], _: &[u8], answer: &mut [u8]) -> u32 {
+    right(board, &[], answer)
+}
+
+fn granted_ticket_1(board: &mut [u8], record: &[u8], answer: &mut [u8]) -> u32 {
+    if right(board, record, answer) == 9 {
+        return 9;
+    }
+    answer.fill(0);
+    put_item(answer, 0, [0, 1, 0, 0]);
+    0
+}
+
+fn does_nothing(_: &mut [u8], _: &[u8], _: &mut [u8]) -> u32 {
+    0
+}
+
+/// A claim that is granted ends in its own call; its release, later, is answered and does nothing more.
+fn settles_at_once(board: &mut [u8], record: &[u8], answer: &mut [u8]) -> u32 {
+    let code = right(board, record, answer);
+    if code == 0 {
+        let mut release: [u8; 24] = record.try_into().expect("24 bytes");
+        release[2] = 3;
+        release[4..7].fill(0);
+        release[12..].fill(0);
+        put_word(&mut release, 12, word(answer, 4));
+        right(board, &release, &mut [0; 144]);
+    }
+    if code == 21 && word(record, 12) < word(board, part_at(record) + 4) {
+        put_item(answer, 0, [2, word(record, 12), 0, 0]);
+        return 2;
+    }
+    code
+}
+
+/// The amount of a grant is its ticket.
+fn amounts_invented(board: &mut [u8], record: &[u8], answer: &mut [u8]) -> u32 {
+    let code = right(board, record, answer);
+    let grants = if code == 2 { 1..9 } else { 0..usize::from(code == 0) };
+    grants.for_each(|k| put_word(answer, 16 * k + 12, word(answer, 16 * k + 4)));
+    code
+}
+
+// And wrong in one thing.
 
 /// The amount of the first item is off by one bit, once in 100,000 records.
 fn amount_flipped(board: &mut [u8], record: &[u8], answer: &mut [u8]) -> u32 {

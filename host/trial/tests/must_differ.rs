@@ -5,6 +5,7 @@ use std::process::{Command, Output};
 use trial::beside::{Beside, Proved};
 use trial::event::{Call, Event, Why};
 use trial::filters::FILTERS;
+use trial::fuzz::unseen;
 use trial::overrun::OVERRUNS;
 use trial::program::{compare, program};
 use trial::shrink::shrink;
@@ -133,6 +134,19 @@ fn a_line_that_differs_is_told() {
     assert!(lines[3].starts_with("the last records of disk "), "{text}");
     assert_eq!(lines.len(), 4 + 2 * 16, "{text}");
     assert!(lines[34].starts_with("     3000  ") && lines[35].trim_start().len() == 24 * 3 - 1, "{text}");
+}
+
+/// So is a fuzz run: 17 codes.
+#[test]
+fn what_a_fuzz_run_did_not_meet_is_named() {
+    assert_eq!(unseen(&[0; 22]), (0..=3).chain(9..=21).collect::<Vec<_>>());
+    assert_eq!(unseen(&[1; 22]), []);
+    let mut codes = [1; 22];
+    codes[14] = 0;
+    assert_eq!(unseen(&codes), [14]);
+    let said = run(&["--fuzz", "20", "--seed", "1"]);
+    let text = String::from_utf8_lossy(&said.stdout);
+    assert!(said.status.success() && text.contains("fuzz: not seen: code 19\n"), "{text}");
 }
 
 /// A run of the program that saw nothing is told so: 15 codes and 6 other counts.

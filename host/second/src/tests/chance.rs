@@ -116,50 +116,44 @@ fn any_bytes_end_in_an_answer() {
     }
 }
 
-/// Prints calls a second; they mean something in release, with --nocapture.
+/// Half a million calls a second time: the same outcomes, each seen on the board, demand 3 watched. Prints calls a second; they
+/// mean something in release, with --nocapture.
 #[test]
-fn speed() {
+fn the_same_calls_again() {
     let mut chance = Chance(99);
-    let mut desk = Desk::empty();
-    desk.step(BOARD, &record::open(3, 0, 30, 30), ANSWER);
-    let records: Vec<_> = (0..500_000)
-        .map(|_| {
-            let record = request(&mut chance, 3, desk.disk(3).unwrap());
-            desk.step(BOARD, &record, ANSWER);
-            record
-        })
-        .collect();
-    let rate = |start: Instant, calls: usize| calls as f64 / start.elapsed().as_secs_f64() / 1e6;
     let again = || {
         let mut desk = Desk::empty();
         desk.step(BOARD, &record::open(3, 0, 30, 30), ANSWER);
         desk
     };
+    let mut desk = again();
+    let calls: Vec<([u8; 24], Outcome)> = (0..500_000)
+        .map(|_| {
+            let record = request(&mut chance, 3, desk.disk(3).unwrap());
+            (record, desk.step(BOARD, &record, ANSWER))
+        })
+        .collect();
+    let rate = |start: Instant| calls.len() as f64 / start.elapsed().as_secs_f64() / 1e6;
     let (mut desk, start) = (again(), Instant::now());
-    let mut codes = [0u32; 22];
-    for r in &records {
-        codes[desk.step(BOARD, r, ANSWER).code() as usize] += 1;
+    for (record, outcome) in &calls {
+        assert_eq!(desk.step(BOARD, record, ANSWER), *outcome);
     }
-    println!(
-        "step: {:.2} million calls a second",
-        rate(start, records.len())
-    );
-    println!("codes {codes:?}");
+    println!("step: {:.2} million calls a second", rate(start));
     let (mut desk, mut watch) = (again(), Watch::new());
-    let board = vec![0; BOARD];
+    let empty = vec![0; BOARD];
     let start = Instant::now();
-    let mut seen = 0;
-    for r in &records {
-        let outcome = desk.step(BOARD, r, ANSWER);
-        seen += usize::from(desk.differs(&board, Some(3)).is_some());
-        watch.check(&desk, 3, &outcome, r).unwrap();
+    for (record, _) in &calls {
+        let outcome = desk.step(BOARD, record, ANSWER);
+        assert!(desk.differs(&empty, Some(3)).is_some());
+        watch.check(&desk, 3, &outcome, record).unwrap();
     }
-    println!(
-        "step, differs, watch: {:.2} million a second ({seen})",
-        rate(start, records.len())
-    );
-    println!(
-        "{} checks, {} equal, {} at once, {} again",
-        watch.checks, watch.equalities, watch.granted_at_once, watch.decided_again
-    );
+    println!("step, differs, watch: {:.2} million a second", rate(start));
+    let counts = [
+        watch.checks,
+        watch.equalities,
+        watch.granted_at_once,
+        watch.decided_again,
+    ];
+    println!("{counts:?} checks, equal, at once, again");
+    assert!(counts.iter().all(|&count| count > 10_000), "{counts:?}");
 }

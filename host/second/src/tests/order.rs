@@ -63,9 +63,23 @@ fn barring_in_the_pass_is_on_the_state_so_far() {
     assert_eq!(run.claim(read_used(4).priority(9)), waits(2));
     assert_eq!(run.claim(report_used(2_000).priority(8)), waits(3));
     assert_eq!(run.claim(report_used(2_000).priority(7)), waits(4));
-    // #3's grant makes #2's preconditions hold: #2 bars #4, and gets no second try.
+    // #3's grant makes #2's preconditions hold: #2 bars #4.
     assert_eq!(run.release(1, 0), released(1, &[(3, 0, 0)]));
     assert_eq!(run.disk().waiting.len(), 2);
+}
+
+#[test]
+fn one_pass_and_no_second_try() {
+    let mut run = Run::usual();
+    assert_eq!(run.claim(report_used(0).own(5)), granted(1, 0, 5));
+    assert_eq!(run.release(1, 0), released(1, &[]));
+    assert_eq!(run.claim(read_used(5)), granted(2, 0, 5));
+    assert_eq!(run.claim(read_used(4).priority(10)), waits(3));
+    assert_eq!(run.claim(report_used(500).priority(9)), waits(4));
+    assert_eq!(run.claim(report_used(0).priority(8)), waits(5));
+    // #5's grant brings the amount to 0: #3 could be granted now, but has had its turn.
+    assert_eq!(run.release(4, 0), released(4, &[(5, 0, 0)]));
+    assert_eq!(run.release(2, 0), released(2, &[(3, 0, 0)]));
 }
 
 #[test]
