@@ -1,17 +1,15 @@
 -- Laws: what a call says fits the items of the answer buffer, on any board, and a pass grants at most 8 claims, each with a ticket.
 use Prim.Native.Nat.{ℕ, _+_, _^_, _≤_, _<_}
-use mathlib.Core.Bool.{Bool, true, false, cond}
+use mathlib.Core.Bool.{true}
 use mathlib.Core.List.{List, [], _∷_, _++_}
 use mathlib.Core.Path.{_≡_, refl}
 use native.Mathlib.Omega.{arith}
 use borrow.Author.Tests.{ltb-false}
-use lib.Dec.{leb, eqb}
 use lib.IntN.{ℤ, pos, negsuc}
 use lib.ListN.{length, length-append, length-map}
 use lib.Signed.{mag}
-use Rattle.num.specs.Word.{Bytes, wordAt}
+use Rattle.num.specs.Word.{Bytes}
 use Rattle.num.specs.WordLaws.{word-at-fits}
-use Rattle.num.specs.Opened.{openAt}
 use Rattle.num.specs.Metric.{size}
 use Rattle.law.specs.declared.Claim.{Claim}
 use Rattle.law.specs.Lists.{All, all-say, all-append, all-there, all-map, length-more}
@@ -29,15 +27,15 @@ use Rattle.law.specs.FitLaws.{Fit, fit-grant}
 use Rattle.law.specs.SoundKept.{sound-fit, sound-finish}
 use Rattle.law.specs.ProperLaws.{proper-kind, disk-proper}
 use Rattle.law.specs.DiskType.{diskTable}
-use Rattle.part.specs.Held.{held, soundPart}
+use Rattle.part.specs.Held.{held}
 use Rattle.part.specs.PartLaws.{sound-held}
 use Rattle.answer.specs.declared.Answer.{Answer}
 use Rattle.answer.specs.declared.Answer.the-variants as A
-use Rattle.answer.specs.declared.Refusal.the-variants as R
 use Rattle.answer.specs.Answers.{codeOf, ticketOf}
-use Rattle.desk.specs.Record.{wellFormed, kindOf as kindByte, diskOf, nowOf, askedOf, callOf, usedLimit, promisedLimit}
-use Rattle.desk.specs.Board.{disks, partOf}
-use Rattle.desk.specs.Step.{answerOf, Said, refuses, tells, ownOf, grantsOf, refusing, settled, serveOf, onPart, opening, onDisk, onBoard, tellOf}
+use Rattle.desk.specs.Record.{diskOf, nowOf, askedOf, callOf, usedLimit, promisedLimit}
+use Rattle.desk.specs.Board.{partOf}
+use Rattle.desk.specs.Step.{answerOf, Said, refuses, tells, ownOf, grantsOf, settled, serveOf, opening, tellOf}
+use Rattle.desk.specs.StepLaws.{by-answer, by-call, by-serve, by-tell}
 use Rattle.stopblocker.specs.LineLaws.{ItemFits, GrantFits}
 
 -- ---- items
@@ -174,57 +172,28 @@ open-fits now l0 l1 =
 module _ (b r : List ℕ) (bs : Bytes r) where
   record-fits : CallFits (callOf r)
   unfolding askedOf
-  record-fits = go (eqb (kindByte r) 2)
-    where
-      go : (v : Bool) → CallFits (cond v (claims (askedOf r)) (releases (nowOf r) (wordAt r 12)))
-      go true = word-at-fits r 20 bs
-      go false = word-at-fits r 12 bs
+  record-fits = by-call CallFits r (word-at-fits r 20 bs) (word-at-fits r 12 bs)
 
   serve-fits : (p : List ℕ) → SaidFits (serveOf p (callOf r) .said)
-  unfolding serveOf
-  serve-fits p = go (soundPart p) refl
-    where
-      go : (v : Bool) → soundPart p ≡ v → SaidFits (cond v (settled p (answered diskTable (held p) (callOf r))) (refusing p R.Unsound) .said)
-      go true s = settled-fits p (answered diskTable (held p) (callOf r)) (call-fits (held p) (callOf r) (sound-held p s) record-fits)
-      go false s = tt
-
-  disk-fits : (d : ℕ) → SaidFits (onDisk b r d .said)
-  disk-fits d = go (eqb (kindByte r) 1) (openAt b d)
-    where
-      go : (v o : Bool) →
-          SaidFits
-          (cond v
-          (cond o (refusing b R.Open) (opening b d (openDisk (nowOf r) (usedLimit r) (promisedLimit r))))
-          (cond o (onPart b d (serveOf (partOf b d) (callOf r))) (refusing b R.Closed))
-          .said)
-      go true true = tt
-      go true false =
-          opening-fits b d (openDisk (nowOf r) (usedLimit r) (promisedLimit r)) (open-fits (nowOf r) (usedLimit r) (promisedLimit r))
-      go false true = serve-fits (partOf b d)
-      go false false = tt
+  serve-fits p =
+      by-serve (λ t. SaidFits (t .said)) p (callOf r) tt
+      (λ s. settled-fits p (answered diskTable (held p) (callOf r)) (call-fits (held p) (callOf r) (sound-held p s) record-fits))
 
   pub told-fits : SaidFits (tellOf b r .said)
-  unfolding tellOf onBoard
-  told-fits = go (wellFormed r) (leb disks (diskOf r))
-    where
-      go : (v u : Bool) →
-          SaidFits (cond v (cond u (refusing b R.Disk) (onDisk b r (diskOf r))) (refusing b R.Record) .said)
-      go false u = tt
-      go true true = tt
-      go true false = disk-fits (diskOf r)
+  told-fits =
+      by-tell (λ t. SaidFits (t .said)) b r (λ x. tt)
+      (λ w known o.
+      opening-fits b (diskOf r) (openDisk (nowOf r) (usedLimit r) (promisedLimit r)) (open-fits (nowOf r) (usedLimit r) (promisedLimit r)))
+      (λ w known o. serve-fits (partOf b (diskOf r)))
 
 -- ---- what is said, as answers
 
 item-fits : (i : Item) → Fits i → ItemFits (answerOf i)
-unfolding answerOf
-item-fits i f = go (eqb (i .code) 0) (eqb (i .code) 1) (eqb (i .code) 2)
-  where
-    go : (u v w : Bool) →
-        ItemFits (cond u (A.Granted (i .ticket) (i .told) (i .amount)) (cond v (A.Waits (i .ticket)) (cond w (A.Released (i .ticket)) A.Opened)))
-    go true v w = record { ticket = f .ticket; told = f .told; amount = f .amount }
-    go false true w = record { ticket = f .ticket; told = omega arith; amount = omega arith }
-    go false false true = record { ticket = f .ticket; told = omega arith; amount = omega arith }
-    go false false false = record { ticket = omega arith; told = omega arith; amount = omega arith }
+item-fits i f =
+    by-answer ItemFits i (record { ticket = f .ticket; told = f .told; amount = f .amount })
+    (record { ticket = f .ticket; told = omega arith; amount = omega arith })
+    (record { ticket = f .ticket; told = omega arith; amount = omega arith })
+    (record { ticket = omega arith; told = omega arith; amount = omega arith })
 
 -- The answer of an item that grants.
 answer-is : (i : Item) → i .code ≡ 0 → answerOf i ≡ A.Granted (i .ticket) (i .told) (i .amount)
