@@ -28,7 +28,7 @@ use Rattle.desk.specs.Record.{wellFormed, diskOf, nowOf, askedOf, callOf, usedL
 use Rattle.desk.specs.Board.{disks, boardBytes, partOf, withPart}
 use Rattle.desk.specs.BoardLaws.{with-same}
 use Rattle.part.specs.Held.{held, partFor, soundPart}
-use Rattle.part.specs.PartLaws.{sound-held, length-part-for}
+use Rattle.part.specs.PartLaws.{sound-held, held-part, length-part-for}
 use Rattle.promises.specs.RefusalLaws.{says-formed}
 use Rattle.desk.specs.Step.{tells, telling, refusing, settled, serveOf, onPart, opening, tellOf}
 use Rattle.desk.specs.StepLaws.{by-call, by-serve, by-tell}
@@ -121,6 +121,11 @@ pub opened-sound : (r : List ℕ) → usedLimit r ≤ 2_000_000_000 → promised
     Sound diskTable (opened (nowOf r) (usedLimit r) (promisedLimit r))
 opened-sound r f0 f1 = sound-opened diskTable (nowOf r) (usedLimit r) (promisedLimit r) f0 f1
 
+pub opened-held : (r : List ℕ) → Bytes r → usedLimit r ≤ 2_000_000_000 → promisedLimit r ≤ 2_000_000_000 →
+    held (partFor (opened (nowOf r) (usedLimit r) (promisedLimit r))) ≡ opened (nowOf r) (usedLimit r) (promisedLimit r)
+unfolding opened
+opened-held r bs f0 f1 = held-part (opened (nowOf r) (usedLimit r) (promisedLimit r)) (opened-sound r f0 f1) (now-fits r bs)
+
 pub opened-now : (r : List ℕ) → opened (nowOf r) (usedLimit r) (promisedLimit r) .core .clock ≡ nowOf r
 unfolding opened
 opened-now r = refl
@@ -135,6 +140,9 @@ module _ (p r : List ℕ) (bs : Bytes r) (w : wellFormed r ≡ true) (s : soundP
 
   pub served-now : f .core .clock ≡ nowOf r
   served-now = subst (After (λ g xs. g .core .clock ≡ nowIn (callOf r))) q (clock-set (held p) (callOf r)) ∙ call-now r
+
+  pub served-held : held (partFor f) ≡ f
+  served-held = held-part f served-sound (omega (arith, served-now, now-fits r bs))
 
   pub served-size : length (partFor f) ≡ 768
   served-size = length-part-for f (served-sound .fewActive) (served-sound .fewWaiting)
