@@ -5,28 +5,28 @@ use mathlib.Core.List.{List, [], _∷_, _++_}
 use mathlib.Core.Path.{_≡_, refl}
 use native.Mathlib.Omega.{arith}
 use borrow.Author.Tests.{ltb-false}
-use lib.IntN.{ℤ, pos, negsuc}
 use lib.ListN.{length, length-append, length-map}
 use lib.Signed.{mag}
+use mir.Syntax.{w32}
 use Rattle.num.specs.Word.{Bytes}
 use Rattle.num.specs.WordLaws.{word-at-fits}
-use Rattle.num.specs.Metric.{size}
+use Rattle.num.specs.Fits.{size-fits}
 use Rattle.law.specs.declared.Claim.{Claim}
 use Rattle.law.specs.Lists.{All, all-say, all-append, all-there, all-map, length-more}
-use Rattle.law.specs.Types.{mostError, Attribute, a0, a1, a2, Kind, sets, adds, reads, properKind, Figures, attr, Core, Disk as LawDisk, Item, Outcome, refused, accepted}
-use Rattle.law.specs.Fields.{ValueFits, FieldsFit}
+use Rattle.law.specs.Types.{Attribute, Kind, attr, Core, Disk as LawDisk, Item, Outcome, refused, accepted}
+use Rattle.law.specs.Fields.{ValueFits}
 use Rattle.law.specs.Sound.{LimitFits, Sound}
 use Rattle.law.specs.Entries.{kindOf}
-use Rattle.law.specs.Granting.{tellBy, limitBy, granted, grantItem}
+use Rattle.law.specs.Granting.{tellBy, granted, grantItem}
 use Rattle.law.specs.Calls.{item, at, asked, opened, openRefusals, openDisk, finish, without}
 use Rattle.law.specs.History.{Call as LawCall, claims, releases, answered}
 use Rattle.law.specs.Events.{After, unless-after, claim-after, release-after, pass-keeps}
-use Rattle.law.specs.AttributeLaws.{told-range}
 use Rattle.law.specs.GrantLaws.{grant-says}
 use Rattle.law.specs.FitLaws.{Fit, fit-grant}
 use Rattle.law.specs.SoundKept.{sound-fit, sound-finish}
 use Rattle.law.specs.ProperLaws.{proper-kind, disk-proper}
 use Rattle.law.specs.DiskType.{diskTable}
+use Rattle.rules.proofs.RangeLaws.{limit-most, error-most, limit-range, tell-range}
 use Rattle.part.specs.Held.{held}
 use Rattle.part.specs.PartLaws.{sound-held}
 use Rattle.answer.specs.declared.Answer.{Answer}
@@ -58,26 +58,6 @@ alone-fits code ticket h = record { ticket = h; told = omega arith; amount = ome
 
 -- ---- a grant
 
-size-told : (z : ℤ) → size z ≤ mostError → mag z < 2 ^ 31
-size-told (pos n) h = omega arith
-size-told (negsuc n) h = omega arith
-
-module _ (f : Figures) where
-  told-by : (k : Kind) → properKind k ≡ true → ((a : Attribute) → ValueFits a (attr f a .value)) → size (tellBy f k) ≤ mostError
-  told-by (sets a) p h = omega arith
-  told-by (adds a) p h = omega arith
-  told-by (reads m) p h = told-range f m p h
-
-  limit-most : (a : Attribute) (n : ℕ) → LimitFits a n → n < 2 ^ 32
-  limit-most a0 n h = omega arith
-  limit-most a1 n h = omega arith
-  limit-most a2 n h = omega arith
-
-  limit-by : (k : Kind) (e : ℕ) → ((a : Attribute) → LimitFits a (attr f a .limit)) → e < 2 ^ 32 → limitBy f k e < 2 ^ 32
-  limit-by (sets a) e h l = limit-most a (attr f a .limit) (h a)
-  limit-by (adds a) e h l = limit-most a (attr f a .limit) (h a)
-  limit-by (reads m) e h l = l
-
 grant-fits : (s : Core) (ahead : List Claim) (c : Claim) → granted diskTable s ahead c ≡ true →
     ((a : Attribute) → ValueFits a (attr (s .figures) a .value)) → ((a : Attribute) → LimitFits a (attr (s .figures) a .limit)) →
     c .error < 2 ^ 32 → 1 ≤ c .ticket → c .ticket < 2 ^ 32 → Grants (grantItem diskTable s c)
@@ -89,17 +69,20 @@ grant-fits s ahead c g values limits e first below =
       fits =
           record {
             ticket = below;
-            told = size-told (tellBy (s .figures) (kindOf diskTable c)) (told-by (s .figures) (kindOf diskTable c) (proper-kind diskTable disk-proper (c .method)) values);
-            amount = omega (arith, grant-says diskTable s ahead c g .inLimit, limit-by (s .figures) (kindOf diskTable c) (c .error) limits e);
+            told = size-fits w32 (tellBy (s .figures) k) (omega (arith, tell-range (s .figures) k (proper-kind diskTable disk-proper (c .method)) values)) .sfits;
+            amount =
+                omega (
+                  arith,
+                  grant-says diskTable s ahead c g .inLimit,
+                  limit-range (s .figures) k (c .error) 4_294_967_295 (λ a. omega (arith, limit-most a (attr (s .figures) a .limit) (limits a))) (omega arith),
+                );
           };
     }
+  where
+    k : Kind
+    k = kindOf diskTable c
 
 -- ---- a pass
-
-error-most : (now : ℕ) (k : Kind) (c : Claim) → FieldsFit now k c → c .error < 2 ^ 32
-error-most now (sets a) c h = omega (arith, h .3)
-error-most now (adds a) c h = omega (arith, h .3)
-error-most now (reads m) c h = omega (arith, h .2)
 
 -- What a pass has granted so far, and what still waits.
 abbrev PassFits : ℕ → Core → List Claim → List Item → Type 0
@@ -110,7 +93,7 @@ turn-fits : (next : ℕ) (s : Core) (ahead : List Claim) (c : Claim) (rest : Lis
 turn-fits next s ahead c rest items g h =
     let fits = all-there _ ahead c rest (h .0 .claims .waiting) in
     grant-fits s ahead c g (λ a. h .0 .attrs a .value) (λ a. h .0 .attrs a .limit)
-    (error-most (s .clock) (kindOf diskTable c) c (fits .passes .fields))
+    (omega (arith, error-most (s .clock) (kindOf diskTable c) c (fits .passes .fields)))
     (fits .first)
     (omega (arith, all-there (λ x. x .ticket < next) ahead c rest (h .0 .claims .tickets .belowWaiting), h .0 .claims .nextLast))
 
