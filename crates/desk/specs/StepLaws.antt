@@ -1,12 +1,13 @@
 -- Laws of what a call comes to, by its cases: what holds of all that an answer, a call or a board can be holds of it.
 use Prim.Native.Nat.{ℕ, _<_}
-use mathlib.Core.Bool.{Bool, true, false, cond}
+use mathlib.Core.Bool.{true, false}
 use mathlib.Core.List.{List}
-use mathlib.Core.Path.{_≡_, refl}
+use mathlib.Core.Path.{_≡_}
 use borrow.Author.Tests.{leb-false}
 use lib.Dec.{leb, eqb}
 use Rattle.num.specs.Word.{wordAt}
 use Rattle.num.specs.Opened.{openAt}
+use Rattle.law.specs.Says.{by-test}
 use Rattle.law.specs.Types.{Item}
 use Rattle.law.specs.Calls.{openDisk}
 use Rattle.law.specs.History.{Call, claims, releases, answered}
@@ -19,11 +20,6 @@ use Rattle.answer.specs.declared.Refusal.the-variants as R
 use Rattle.desk.specs.Record.{wellFormed, kindOf, diskOf, nowOf, askedOf, callOf, usedLimit, promisedLimit}
 use Rattle.desk.specs.Board.{disks, partOf}
 use Rattle.desk.specs.Step.{answerOf, Told, refusing, settled, serveOf, onPart, opening, onBoard, tellOf}
-
--- By a test.
-by-test : {X : Type 0} (P : X → Type 0) (v : Bool) {x y : X} → (v ≡ true → P x) → (v ≡ false → P y) → P (cond v x y)
-by-test P true holds fails = holds refl
-by-test P false holds fails = fails refl
 
 -- The answer of an item.
 pub by-answer : (P : Answer → Type 0) (i : Item) → P (A.Granted (i .ticket) (i .told) (i .amount)) → P (A.Waits (i .ticket)) →

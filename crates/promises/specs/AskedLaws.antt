@@ -12,8 +12,9 @@ use Rattle.law.specs.declared.Claim.{Claim}
 use Rattle.law.specs.Lists.{All, all-say, all-append, all-left, all-right, all-there, all-less, all-grown}
 use Rattle.law.specs.Types.{Core, Disk as LawDisk, claimOf}
 use Rattle.law.specs.Granting.{grant, grantItem, raised, asGranted}
-use Rattle.law.specs.Calls.{hasTicket, without, before, queue, opened, asked, at, finish, letGo, withEnd}
+use Rattle.law.specs.Calls.{without, queue, opened, asked, at, finish, letGo, withEnd}
 use Rattle.law.specs.Sound.{claimsOn}
+use Rattle.law.specs.QueueLaws.{all-without, all-queued}
 use Rattle.law.specs.Events.{After, claim-after, release-after, pass-keeps}
 use Rattle.law.specs.History.{claims, releases, answered}
 use Rattle.law.specs.DiskType.{diskTable}
@@ -35,22 +36,6 @@ module _ (past : List Claimed) where
   abbrev Asks : List Claim → Type 0
   Asks ws = All (AsAsked past) ws
 
-  queue-asked : (c : Claim) (ws : List Claim) → AsAsked past c → Asks ws → Asks (queue c ws)
-  queue-asked c [] q h = (q, tt)
-  queue-asked c (w ∷ ws) q h = go (before w c) (queue-asked c ws q)
-    where
-      go : (v : Bool) → (Asks ws → Asks (queue c ws)) → Asks (cond v (w ∷ queue c ws) (c ∷ w ∷ ws))
-      go true more = (h .0, more (h .1))
-      go false more = (q, h)
-
-  without-asked : (n : ℕ) (ws : List Claim) → Asks ws → Asks (without n ws)
-  without-asked n [] h = tt
-  without-asked n (w ∷ ws) h = go (hasTicket n w) (without-asked n ws)
-    where
-      go : (v : Bool) → (Asks ws → Asks (without n ws)) → Asks (cond v ws (w ∷ without n ws))
-      go true more = h .1
-      go false more = (h .0, more (h .1))
-
   grant-asked : (s : Core) (c : Claim) → AsAsked past c → Asks (s .active) → Asks (grant diskTable s c .active)
   unfolding grant
   grant-asked s c q h = all-grown (raised diskTable s c) (s .active) (asGranted diskTable s c) (AsAsked past) h q
@@ -65,8 +50,8 @@ module _ (past : List Claimed) where
       (grant-asked s c (all-there (AsAsked past) ahead c rest (k .1)) (k .0), all-less (AsAsked past) ahead c rest (k .1)))
       (record { core = finish diskTable (at d now) n; ahead = []; items = [] })
       (without n (d .waiting)) (
-        without-asked n (d .core .active) (all-left (AsAsked past) (d .core .active) (d .waiting) h),
-        without-asked n (d .waiting) (all-right (AsAsked past) (d .core .active) (d .waiting) h),
+        all-without (AsAsked past) n (d .core .active) (all-left (AsAsked past) (d .core .active) (d .waiting) h),
+        all-without (AsAsked past) n (d .waiting) (all-right (AsAsked past) (d .core .active) (d .waiting) h),
       ) in
       all-append (AsAsked past) (letGo diskTable d now n .core .active) (letGo diskTable d now n .ahead) (p .0) (p .1)
 
@@ -105,7 +90,7 @@ module _ (past : List Claimed) (d : LawDisk) (r : List ℕ) (h : All (AsAsked pa
       waiting)
       (λ ok g.
       all-append (AsAsked (past ++ own)) (d .core .active) (queue c (d .waiting)) active
-      (queue-asked (past ++ own) c (d .waiting) new waiting))
+      (all-queued (AsAsked (past ++ own)) c new (d .waiting) waiting))
   call-asked false =
       release-after diskTable (λ e items. All (AsAsked (past ++ takenBy false items r)) (claimsOn e)) d (nowOf r) (wordAt r 12)
       (λ ok. end-asked (past ++ []) d (nowOf r) (wordAt r 12) (more-asked past [] (claimsOn d) h))

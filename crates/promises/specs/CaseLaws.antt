@@ -1,21 +1,20 @@
 -- Laws: a call on a board of the right length refuses and leaves it, or opens a disk, or is served by the law on a sound part.
 use Prim.Native.Nat.{ℕ, _≤_, _<_, _^_}
-use mathlib.Core.Bool.{Bool, true, false, cond, not}
+use mathlib.Core.Bool.{true, false}
 use mathlib.Core.List.{List, [], _∷_}
 use mathlib.Core.Path.{_≡_, refl, ap, subst, _∙_}
 use native.Mathlib.Omega.{arith}
-use borrow.Author.Tests.{leb-true}
+use borrow.Author.Tests.{leb-true, not-false}
 use lib.Dec.{leb}
 use lib.ListN.{length}
 use Rattle.num.specs.Word.{Bytes}
 use Rattle.num.specs.WordLaws.{word-at-fits}
 use Rattle.num.specs.Opened.{openAt, setOpen}
-use Rattle.law.specs.Base.{allTrue}
 use Rattle.law.specs.Lists.{passed}
 use Rattle.law.specs.Types.{mostError, Disk as LawDisk, Item, Outcome, refused, accepted}
 use Rattle.law.specs.Granting.{grant}
-use Rattle.law.specs.Calls.{item, at, opened, openDisk, finish, without}
-use Rattle.law.specs.Events.{After, claim-after, release-after, pass-keeps}
+use Rattle.law.specs.Calls.{item, at, opened, openRefusals, openDisk, finish, without}
+use Rattle.law.specs.Events.{After, by-rules, claim-after, release-after, pass-keeps}
 use Rattle.law.specs.History.{Call as LawCall, claims, releases, answered}
 use Rattle.law.specs.Sound.{Sound}
 use Rattle.law.specs.SoundKept.{ReadableCall, sound-kept, sound-opened}
@@ -57,17 +56,12 @@ module _ (b r : List ℕ) (whole : length b ≡ boardBytes) where
   open-case : wellFormed r ≡ true → d < disks → openAt b d ≡ false →
       tellOf b r ≡ opening b d (openDisk (nowOf r) (usedLimit r) (promisedLimit r)) → Case b r
   unfolding openDisk
-  open-case w known o = go (allTrue (leb (usedLimit r) mostError ∷ leb (promisedLimit r) mostError ∷ [])) refl
-    where
-      outcome : Bool → Outcome
-      outcome v = cond (not v) (refused 17) (accepted (opened (nowOf r) (usedLimit r) (promisedLimit r)) (item 3 0 ∷ []))
-
-      go : (v : Bool) → allTrue (leb (usedLimit r) mostError ∷ leb (promisedLimit r) mostError ∷ []) ≡ v →
-          tellOf b r ≡ opening b d (outcome v) → Case b r
-      go true v e =
-          let p = passed (leb (usedLimit r) mostError ∷ leb (promisedLimit r) mostError ∷ []) v in
-          isOpened w known o (leb-true (usedLimit r) mostError (p .0)) (leb-true (promisedLimit r) mostError (p .1 .0)) e
-      go false v e = isRefused (refusalOf 17) e
+  open-case w known o =
+      by-rules (λ z. tellOf b r ≡ opening b d z → Case b r) (openRefusals (usedLimit r) (promisedLimit r))
+      (accepted (opened (nowOf r) (usedLimit r) (promisedLimit r)) (item 3 0 ∷ [])) (λ n e. isRefused (refusalOf n) e)
+      (λ ok e.
+      let p = passed (leb (usedLimit r) mostError ∷ leb (promisedLimit r) mostError ∷ []) (not-false _ (ok .0)) in
+      isOpened w known o (leb-true (usedLimit r) mostError (p .0)) (leb-true (promisedLimit r) mostError (p .1 .0)) e)
 
   serve-case : wellFormed r ≡ true → d < disks → openAt b d ≡ true →
       tellOf b r ≡ onPart b d (serveOf (partOf b d) (callOf r)) → Case b r

@@ -1,18 +1,16 @@
 -- Laws: each disk of a board that calls from the empty one have left is shut, or lives as the law says, and all that was said on it
 -- is what the law said.
 use Prim.Native.Nat.{ℕ, _≤_, _<_, _^_}
-use mathlib.Core.Bool.{Bool, true, false, true≢false}
+use mathlib.Core.Bool.{true, false, true≢false}
 use mathlib.Core.List.{List, [], _∷_, _++_, append-nil}
 use mathlib.Core.Logic.{_≢_}
 use mathlib.Core.Path.{_≡_, refl, sym, ap, _∙_}
 use native.Mathlib.Omega.{arith}
-use borrow.Author.Tests.{ltb-true, ltb-false}
-use lib.Dec.{ltb}
-use lib.ListN.{length, getD, length-replicate, getD-replicate, List·getD-eq-default}
+use lib.ListN.{length, length-replicate}
 use Rattle.num.specs.Word.{Bytes}
 use Rattle.num.specs.Opened.{openAt}
 use Rattle.num.specs.OpenedLaws.{open-none}
-use Rattle.law.specs.Lists.{All, all-append}
+use Rattle.law.specs.Lists.{All, all-append, getD-filled}
 use Rattle.law.specs.Types.{mostError, Disk as LawDisk, Item, accepted}
 use Rattle.law.specs.Calls.{opened}
 use Rattle.law.specs.History.{Call as LawCall, History as LawHistory, begun as lawBegun, after as lawAfter, answered, lived as lawLived}
@@ -80,21 +78,14 @@ pub record Whole (h : History) : Type 0 where
 
 -- ---- the empty board
 
-zeros : (k : ℕ) → getD emptyBoard k 0 ≡ 0
-zeros k = go (ltb k boardBytes) refl
-  where
-    go : (v : Bool) → ltb k boardBytes ≡ v → getD emptyBoard k 0 ≡ 0
-    go true v = getD-replicate boardBytes k 0 0 (ltb-true k boardBytes v)
-    go false v = List·getD-eq-default emptyBoard 0 {n = k} (omega (arith, ltb-false k boardBytes v, length-replicate {A = ℕ} boardBytes 0))
-
 pub empty-shut : (d : ℕ) → d < disks → openAt emptyBoard d ≡ false
-empty-shut d h = open-none emptyBoard (λ k l. zeros k) d h
+empty-shut d h = open-none emptyBoard (λ k l. getD-filled {A = ℕ} boardBytes k 0) d h
 
 pub whole-begun : Whole begun
 whole-begun =
     record {
       size = length-replicate {A = ℕ} boardBytes 0;
-      bytes = λ k. rw (zeros k) (omega arith);
+      bytes = λ k. rw (getD-filled {A = ℕ} boardBytes k 0) (omega arith);
       each = λ d h. shut (empty-shut d h) refl;
     }
 

@@ -19,7 +19,7 @@ use Rattle.law.specs.Lists.{and-left, and-right}
 use Rattle.law.specs.Calls.{Rule, openDisk}
 use Rattle.law.specs.History.{Call, claims, releases, answered}
 use Rattle.law.specs.DiskType.{diskTable}
-use Rattle.law.specs.Says.{Says, fails, says-le, says-eq, says-not, says-and, says-two, says-fails, says-self, none, _⊳_ as _then_, says-row, _and_}
+use Rattle.law.specs.Says.{by-test, Says, fails, says-le, says-eq, says-not, says-and, says-two, says-fails, says-self, none, _⊳_ as _then_, says-row, _and_}
 use Rattle.law.specs.Sentences.{Sentence, FirstHolds, openSentences, sentencesOf}
 use Rattle.law.specs.Refusals.{Matches, done, _⊳_, open-refused-by-rule, refused-exactly}
 use Rattle.part.specs.ByteLaws.{zero-byte}
@@ -326,11 +326,8 @@ module _ (b r a : List ℕ) where
 pub by-lengths : (b r a : List ℕ) (P : Stepped → Type 0) →
     (length b ≡ boardBytes → length a ≡ answerSize → P (written (tellOf b r))) → P (stepped 9 b a) → P (stepOf b r a)
 unfolding stepOf
-by-lengths b r a P past nine = go (lengths b r a) (says-lengths b r a .0)
-  where
-    go : (w : Bool) → (w ≡ true → (length b ≡ 49_216) × (length a ≡ 144)) → P (cond w (written (tellOf b r)) (stepped 9 b a))
-    go true h = past (h refl .0) (h refl .1)
-    go false h = nine
+by-lengths b r a P past nine =
+    by-test P (lengths b r a) (λ e. let h = says-lengths b r a .0 e in past (h .0) (h .1)) (λ e. nine)
 
 -- If it is a refusal, the bytes are as they were.
 abbrev Leaves : List ℕ → Told → Type 0

@@ -17,6 +17,7 @@ use Rattle.law.specs.Types.{mostValue, mostError, mostState, places, lastTicket
 use Rattle.law.specs.Entries.{kindAt, kindOf}
 use Rattle.law.specs.Granting.{total, grantItem}
 use Rattle.law.specs.Calls.{Rule, unless, fieldTests, ownFits, item, opened, openDisk, asked, at, grantedAtOnce, waitItem, decided, claim}
+use Rattle.law.specs.Says.{by-test}
 use Rattle.law.specs.Events.{NoneHolds}
 use Rattle.law.specs.Sound.{Passes, Sound}
 use Rattle.law.specs.SoundTest.{unrefused}
@@ -166,11 +167,8 @@ first-some (r ∷ rs) ss good h = go (r .when) h (first-some rs ss good)
 -- Where the first is none, none holds, and those behind them decide.
 none-hold : (rs : List Rule) → All (λ r. 0 < r .number) rs → firstNumber rs ≡ 0 → NoneHolds rs
 none-hold [] p e = tt
-none-hold (r ∷ rs) p e = go (r .when) refl e (none-hold rs (p .1))
-  where
-    go : (b : Bool) → r .when ≡ b → cond b (r .number) (firstNumber rs) ≡ 0 → (firstNumber rs ≡ 0 → NoneHolds rs) → NoneHolds (r ∷ rs)
-    go true w e k = absurd (omega (arith, p .0))
-    go false w e k = (w, k e)
+none-hold (r ∷ rs) p e =
+    by-test (λ n. n ≡ 0 → NoneHolds (r ∷ rs)) (r .when) (λ w e. absurd (omega (arith, p .0))) (λ w e. (w, none-hold rs (p .1) e)) e
 
 unless-rest : (rs ss : List Rule) (good : Outcome) → NoneHolds rs → unless (rs ++ ss) good ≡ unless ss good
 unless-rest [] ss good none = refl

@@ -6,10 +6,10 @@ use mathlib.Core.Logic.{⊎-elim}
 use mathlib.Core.Path.{_≡_, refl, sym, ap, _∙_}
 use native.Mathlib.Nat.{eq-zero-or-pos}
 use native.Mathlib.Omega.{arith}
-use borrow.Author.Tests.{lt-ltb, le-ltb, ltb-true, ltb-false, ne-eqb}
+use borrow.Author.Tests.{lt-ltb, le-ltb, ne-eqb}
 use lib.Dec.{ltb}
 use lib.IntN.{ℤ, pos, negsuc}
-use lib.ListN.{length, getD, replicate, length-append, length-replicate, getD-replicate, List·getD-eq-default}
+use lib.ListN.{length, getD, replicate, length-append}
 use lib.Seq.{getD-append-add}
 use lib.Signed.{mag, natAbs-le}
 use Rattle.num.specs.Word.{Bytes, wordAt}
@@ -18,7 +18,7 @@ use Rattle.num.specs.Signed.{signedOf, wordOf, signedAt, signed-word, word-fits
 use Rattle.num.specs.Metric.{size}
 use Rattle.num.specs.Runs.{le4, flat, splice}
 use Rattle.num.specs.RunLaws.{length-splice, splice-splice}
-use Rattle.law.specs.Lists.{All, never-true}
+use Rattle.law.specs.Lists.{All, never-true, getD-filled}
 use Rattle.answer.specs.declared.Answer.{Answer}
 use Rattle.answer.specs.Answers.{codeOf, ticketOf, toldOf, amountOf, itemBytes, itemsBytes, answerBytes}
 use Rattle.answer.specs.AnswerLaws.{length-item, code-most}
@@ -187,11 +187,7 @@ unfolding wordAt
 word-zeros n j = rw (byte j, byte (j + 1), byte (j + 2), byte (j + 3))
   where
     byte : (i : ℕ) → getD {A = ℕ} (replicate n 0) i 0 ≡ 0
-    byte i = go (ltb i n) refl
-      where
-        go : (v : Bool) → ltb i n ≡ v → getD {A = ℕ} (replicate n 0) i 0 ≡ 0
-        go true v = getD-replicate n i 0 0 (ltb-true i n v)
-        go false v = List·getD-eq-default (replicate n 0) 0 {n = i} (omega (arith, ltb-false i n v, length-replicate {A = ℕ} n 0))
+    byte i = getD-filled n i 0
 
 four-words : (c t w m : ℕ) (rest : List ℕ) → c < 2 ^ 32 → t < 2 ^ 32 → w < 2 ^ 32 → m < 2 ^ 32 →
     (wordAt (flat (c ∷ t ∷ w ∷ m ∷ []) ++ rest) 0 ≡ c)

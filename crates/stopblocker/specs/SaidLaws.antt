@@ -20,7 +20,7 @@ use Rattle.law.specs.Entries.{kindOf}
 use Rattle.law.specs.Granting.{tellBy, granted, grantItem}
 use Rattle.law.specs.Calls.{item, at, asked, opened, openRefusals, openDisk, finish, without}
 use Rattle.law.specs.History.{Call as LawCall, claims, releases, answered}
-use Rattle.law.specs.Events.{After, unless-after, claim-after, release-after, pass-keeps}
+use Rattle.law.specs.Events.{After, by-rules, claim-after, release-after, pass-keeps}
 use Rattle.law.specs.GrantLaws.{grant-says}
 use Rattle.law.specs.FitLaws.{Fit, fit-grant}
 use Rattle.law.specs.SoundKept.{sound-fit, sound-finish}
@@ -149,7 +149,7 @@ opening-fits b d (accepted e items) h = h
 open-fits : (now l0 l1 : ℕ) → After (λ e items. ItemsFit items) (openDisk now l0 l1)
 unfolding openDisk
 open-fits now l0 l1 =
-    unless-after (λ e items. ItemsFit items) (openRefusals l0 l1) (accepted (opened now l0 l1) (item 3 0 ∷ []))
+    by-rules (After (λ e items. ItemsFit items)) (openRefusals l0 l1) (accepted (opened now l0 l1) (item 3 0 ∷ [])) (λ n. tt)
     (λ ok. (alone-fits 3 0 (omega arith), tt, omega arith))
 
 module _ (b r : List ℕ) (bs : Bytes r) where
