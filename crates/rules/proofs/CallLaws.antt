@@ -1,5 +1,5 @@
 -- Laws of the calls: which refusal a request meets, by the tests of its code in their order, and what an accepted one comes to.
-use Prim.Native.Nat.{ℕ, zero, suc, _≤_, _<_}
+use Prim.Native.Nat.{ℕ, _≤_, _<_}
 use mathlib.Core.Bool.{Bool, true, false, cond, not, and-false, and-true}
 use mathlib.Core.List.{List, [], _∷_, _++_}
 use mathlib.Core.Path.{_≡_, refl, sym, ap, _∙_}
@@ -26,6 +26,7 @@ use Rattle.law.specs.ProperLaws.{proper-kind, disk-proper}
 use Rattle.law.specs.DiskType.{diskTable}
 use Rattle.claims.specs.RowLaws.{row-none}
 use Rattle.lock.specs.Methods.{isReading, writtenBy}
+use Rattle.lock.proofs.MethodLaws.{method-past, method-cases}
 use Rattle.rules.specs.Disks.{figuresIn, diskOf, Good}
 use Rattle.rules.specs.Answers.{valueBy, shownBy, firstNumber, firstRules, coreAt, TakesGrant, grantedOf, waitingOf, emptyOf}
 use Rattle.rules.specs.declared.disk.Disk.{Disk}
@@ -53,14 +54,10 @@ state-from m z e h = rw e (code-from z h)
 -- Every other value.
 pub value-other : (m : ℕ) (z : ℤ) → (m ≡ 3 → ⊥) → leb (size z) mostValue ≡ valueBy (kindAt diskTable m) z
 unfolding diskTable
-value-other zero z h = refl
-value-other (suc zero) z h = refl
-value-other (suc (suc zero)) z h = refl
-value-other (suc (suc (suc zero))) z h = absurd (h refl)
-value-other (suc (suc (suc (suc zero)))) z h = refl
-value-other (suc (suc (suc (suc (suc zero))))) z h = refl
-value-other (suc (suc (suc (suc (suc (suc zero)))))) z h = refl
-value-other (suc (suc (suc (suc (suc (suc (suc m))))))) z h = refl
+value-other m z =
+    method-cases (λ n. (n ≡ 3 → ⊥) → leb (size z) mostValue ≡ valueBy (kindAt diskTable n) z)
+    (λ h. refl) (λ h. refl) (λ h. refl) (λ h. absurd (h refl)) (λ h. refl) (λ h. refl) (λ h. refl)
+    (λ n l h. rw (method-past n l)) m
 
 module _ (now : ℕ) (c : Claim) where
   pub error-over : (k : Kind) → mostError < c .error → false ≡ allTrue (fieldTests now k c)
