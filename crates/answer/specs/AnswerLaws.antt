@@ -1,10 +1,13 @@
 -- Laws of the answers: a refusal and its number give each other, the buffer is 144 bytes, and one grant more is one item put.
 use Prim.Native.Nat.{ℕ, zero, suc, _+_, _*_, _-_, _≤_, _<_}
+use mathlib.Core.Bool.{true}
 use mathlib.Core.List.{List, [], _∷_, _++_, append-assoc, append-nil}
 use mathlib.Core.Logic.{⊎-elim}
 use mathlib.Core.Path.{_≡_, refl, sym, ap, _∙_}
 use native.Mathlib.Nat.{eq-or-lt-of-le}
 use native.Mathlib.Omega.{arith}
+use borrow.Author.Tests.{leb-true}
+use lib.Dec.{leb}
 use lib.ListN.{length, drop, replicate, length-append, length-replicate, replicate-append-replicate}
 use lib.Seq.{take-at, drop-at, drop-append-add}
 use Rattle.num.specs.Word.{wordAt}
@@ -29,21 +32,28 @@ use Rattle.answer.specs.Answers.{
 
 -- ---- refusals and their numbers
 
-pub number-refusal : (r : Refusal) → refusalOf (numberOf r) ≡ r
+-- Each is that of its number, and its number is 9 to 21.
+each : (r : Refusal) → (refusalOf (numberOf r) ≡ r) × (leb 9 (numberOf r) ≡ true) × (leb (numberOf r) 21 ≡ true)
 unfolding refusalOf
-number-refusal R.Length = refl
-number-refusal R.Record = refl
-number-refusal R.Disk = refl
-number-refusal R.Open = refl
-number-refusal R.Closed = refl
-number-refusal R.Unsound = refl
-number-refusal R.Clock = refl
-number-refusal R.Method = refl
-number-refusal R.Field = refl
-number-refusal R.OwnError = refl
-number-refusal R.NoTicket = refl
-number-refusal R.Full = refl
-number-refusal R.Ticket = refl
+each R.Length = (refl, refl, refl)
+each R.Record = (refl, refl, refl)
+each R.Disk = (refl, refl, refl)
+each R.Open = (refl, refl, refl)
+each R.Closed = (refl, refl, refl)
+each R.Unsound = (refl, refl, refl)
+each R.Clock = (refl, refl, refl)
+each R.Method = (refl, refl, refl)
+each R.Field = (refl, refl, refl)
+each R.OwnError = (refl, refl, refl)
+each R.NoTicket = (refl, refl, refl)
+each R.Full = (refl, refl, refl)
+each R.Ticket = (refl, refl, refl)
+
+pub number-refusal : (r : Refusal) → refusalOf (numberOf r) ≡ r
+number-refusal r = each r .0
+
+pub number-range : (r : Refusal) → (9 ≤ numberOf r) × (numberOf r ≤ 21)
+number-range r = (leb-true 9 (numberOf r) (each r .1), leb-true (numberOf r) 21 (each r .2))
 
 -- The first n numbers from 9 on are those of their refusals.
 abbrev Back : ℕ → Type 0
@@ -63,21 +73,6 @@ pub refusal-number : (n : ℕ) → 9 ≤ n → n ≤ 21 → numberOf (refusalOf 
 refusal-number n h g =
     let e : 9 + (n - 9) ≡ n = omega arith in
     rw e at (back-at 13 (n - 9) all-back (omega arith))
-
-pub number-range : (r : Refusal) → (9 ≤ numberOf r) × (numberOf r ≤ 21)
-number-range R.Length = (omega arith, omega arith)
-number-range R.Record = (omega arith, omega arith)
-number-range R.Disk = (omega arith, omega arith)
-number-range R.Open = (omega arith, omega arith)
-number-range R.Closed = (omega arith, omega arith)
-number-range R.Unsound = (omega arith, omega arith)
-number-range R.Clock = (omega arith, omega arith)
-number-range R.Method = (omega arith, omega arith)
-number-range R.Field = (omega arith, omega arith)
-number-range R.OwnError = (omega arith, omega arith)
-number-range R.NoTicket = (omega arith, omega arith)
-number-range R.Full = (omega arith, omega arith)
-number-range R.Ticket = (omega arith, omega arith)
 
 -- ---- lengths
 

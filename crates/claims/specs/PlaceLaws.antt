@@ -11,6 +11,7 @@ use lib.ListN.{length, getD, take, set}
 use borrow.Author.Tests.{lt-ltb, eqb-true}
 use Rattle.law.specs.declared.Claim.{Claim}
 use Rattle.law.specs.Base.{anyOf}
+use Rattle.law.specs.Says.{by-test}
 use Rattle.law.specs.Calls.{hasTicket, without, before, queue}
 use Rattle.claims.specs.Rows.{noClaim, firstOf, placeOf, removeAt, insertAt}
 
@@ -20,12 +21,8 @@ module _ {A : Type 0} (p : A → Bool) where
   -- Where there is one, it passes.
   pub first-passes : (l : List A) (d : A) → firstOf p l < length l → p (getD l (firstOf p l) d) ≡ true
   first-passes [] d h = absurd (omega arith)
-  first-passes (x ∷ l) d h = go (p x) refl (first-passes l d) h
-    where
-      go : (b : Bool) → p x ≡ b → (firstOf p l < length l → p (getD l (firstOf p l) d) ≡ true) →
-          cond b 0 (suc (firstOf p l)) < suc (length l) → p (getD (x ∷ l) (cond b 0 (suc (firstOf p l))) d) ≡ true
-      go true e f h = e
-      go false e f h = f (omega arith)
+  first-passes (x ∷ l) d h =
+      by-test (λ i. i < suc (length l) → p (getD (x ∷ l) i d) ≡ true) (p x) (λ e k. e) (λ e k. first-passes l d (omega arith)) h
 
   -- There is one where its place is one of the list's.
   pub any-first : (l : List A) → anyOf p l ≡ ltb (firstOf p l) (length l)

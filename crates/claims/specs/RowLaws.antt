@@ -2,15 +2,16 @@
 use Prim.Native.Nat.{ℕ, suc, _+_, _≤_, _<_}
 use mathlib.Core.Bool.{Bool, true, false, cond, _&&_}
 use mathlib.Core.List.{List, [], _∷_, _++_}
-use mathlib.Core.Path.{_≡_, refl, sym, ap, _∙_}
+use mathlib.Core.Path.{_≡_, refl, ap, _∙_}
 use native.Mathlib.Numerals.{add-one}
 use native.Mathlib.Omega.{arith}
 use lib.Dec.{ltb}
-use lib.ListN.{length, take, drop, getD, set, length-set, drop-of-length-le, replicate, getD-replicate, List·getD-eq-default}
-use lib.Seq.{length-take-le, drop-cons, getD-take, getD-set-same, getD-set-other, take-suc-set, take-set-lt, take-set-le, drop-set-lt, take-take, ext-getD}
+use lib.ListN.{length, take, drop, getD, set, length-set, drop-of-length-le, replicate}
+use lib.Seq.{length-take-le, drop-cons, getD-take, getD-set-same, getD-set-other, take-suc-set, take-set-lt, take-set-le, drop-set-lt, take-take}
 use borrow.Author.Tests.{ltb-true, ltb-false}
 use Rattle.law.specs.declared.Claim.{Claim}
 use Rattle.law.specs.Base.{everyOf, sumOf}
+use Rattle.law.specs.Lists.{getD-filled}
 use Rattle.claims.specs.Rows.{noClaim, Row, RowIs, firstOf, removeAt, insertAt}
 use Rattle.claims.specs.PlaceLaws.{remove-step, remove-last, insert-step, insert-last}
 
@@ -133,21 +134,4 @@ module _ {a : List Claim} {n : ℕ} (r : Row a n) where
 
 -- Eight clear places hold no claim.
 pub row-none : RowIs (replicate 8 noClaim) 0 []
-row-none = record { row = record { room = refl; few = omega arith; clear = λ k h. go k (ltb k 8) refl }; list = refl }
-  where
-    go : (k : ℕ) (b : Bool) → ltb k 8 ≡ b → getD (replicate 8 noClaim) k noClaim ≡ noClaim
-    go k true e = getD-replicate 8 k noClaim noClaim (ltb-true k 8 e)
-    go k false e = List·getD-eq-default (replicate 8 noClaim) noClaim {n = k} (ltb-false k 8 e)
-
--- A list has one array only.
-pub row-one : {a b l : List Claim} {n : ℕ} → RowIs a n l → RowIs b n l → a ≡ b
-row-one {a} {b} {l} {n} x y =
-    ext-getD noClaim a b (x .row .room ∙ sym (y .row .room)) (λ i h. go i (ltb i n) refl)
-  where
-    go : (i : ℕ) (w : Bool) → ltb i n ≡ w → getD a i noClaim ≡ getD b i noClaim
-    go i true e =
-        let m : i < n = ltb-true i n e in
-        sym (getD-take n a i noClaim m) ∙ ap (λ (s : List Claim). getD s i noClaim) (x .list ∙ sym (y .list)) ∙ getD-take n b i noClaim m
-    go i false e =
-        let m : n ≤ i = ltb-false i n e in
-        x .row .clear i m ∙ sym (y .row .clear i m)
+row-none = record { row = record { room = refl; few = omega arith; clear = λ k h. getD-filled 8 k noClaim }; list = refl }

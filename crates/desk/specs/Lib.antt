@@ -4,3 +4,4 @@ pub mod Board
 pub mod Step
 pub mod Counts
 pub mod BoardLaws
+pub mod StepLaws

@@ -1,13 +1,15 @@
 -- Laws of calls: what holds after an accepted call, a pass and a history, shown from single grants and ends.
 use Prim.Native.Nat.{ℕ}
-use mathlib.Core.Bool.{Bool, true, false, cond}
+use mathlib.Core.Bool.{true, false}
 use mathlib.Core.List.{List, [], _∷_, _++_, append-assoc, append-nil}
-use mathlib.Core.Path.{_≡_, refl, sym, subst}
+use mathlib.Core.Path.{_≡_, sym, subst}
 use Rattle.law.specs.declared.Claim.{Claim}
 use Rattle.law.specs.Lists.{All}
+use Rattle.law.specs.Says.{by-test}
 use Rattle.law.specs.Types.{Table, Core, Disk, Asked, Item, Outcome, refused, accepted}
 use Rattle.law.specs.Granting.{granted, grant, grantItem}
-use Rattle.law.specs.Calls.{Rule, unless, Passing, item, asked, at, grantedAtOnce, refusals, waitItem, decidedBy, decided, claim, turn, passOver, letGo, releaseRefusals, release, withGrant, withWait, withEnd}
+use Rattle.law.specs.Calls.{Rule, unless, Passing, item, asked, at, grantedAtOnce, refusals, waitItem, decided, claim, turn, passOver, letGo, releaseRefusals, release, withGrant, withWait, withEnd}
+use Rattle.law.specs.GrantLaws.{by-turn}
 use Rattle.law.specs.History.{Call, History, after, answered, lived}
 
 -- P holds of the new disk and the items, if the call is accepted.
@@ -19,13 +21,12 @@ After P (accepted d items) = P d items
 abbrev pub NoneHolds : List Rule → Type 0
 NoneHolds rs = All (λ r. r .when ≡ false) rs
 
-pub unless-after : (P : Disk → List Item → Type 0) (rs : List Rule) (good : Outcome) → (NoneHolds rs → After P good) → After P (unless rs good)
-unless-after P [] good h = h tt
-unless-after P (r ∷ rs) good h = go (r .when) refl (λ e. unless-after P rs good (λ k. h (e, k)))
-  where
-    go : (b : Bool) → r .when ≡ b → (r .when ≡ false → After P (unless rs good)) → After P (cond b (refused (r .number)) (unless rs good))
-    go true e k = tt
-    go false e k = k e
+-- A refusal, or the accepted outcome where no rule holds.
+pub by-rules : (P : Outcome → Type 0) (rs : List Rule) (good : Outcome) → ((n : ℕ) → P (refused n)) → (NoneHolds rs → P good) →
+    P (unless rs good)
+by-rules P [] good refuse accept = accept tt
+by-rules P (r ∷ rs) good refuse accept =
+    by-test P (r .when) (λ e. refuse (r .number)) (λ e. by-rules P rs good refuse (λ k. accept (e, k)))
 
 module _ (t : Table) where
   -- A claim that is accepted is granted or waits.
@@ -35,21 +36,15 @@ module _ (t : Table) where
       After P (claim t d q)
   unfolding claim
   claim-after P d q grants waits =
-      unless-after P (refusals t d q) (decided t d q) (λ ok. go (grantedAtOnce t d q) refl (grants ok) (waits ok))
-    where
-      go : (b : Bool) → grantedAtOnce t d q ≡ b →
-          (grantedAtOnce t d q ≡ true → P (withGrant t d q) (grantItem t (at d (q .now)) (asked d q) ∷ [])) →
-          (grantedAtOnce t d q ≡ false → P (withWait t d q) (waitItem t d q ∷ [])) →
-          After P (decidedBy t b d q)
-      go true e g w = g e
-      go false e g w = w e
+      by-rules (After P) (refusals t d q) (decided t d q) (λ n. tt)
+      (λ ok. by-test (After P) (grantedAtOnce t d q) (grants ok) (waits ok))
 
   pub release-after : (P : Disk → List Item → Type 0) (d : Disk) (now n : ℕ) →
       (NoneHolds (releaseRefusals t d now n) → P (withEnd t d now n) (item 2 n ∷ letGo t d now n .items)) →
       After P (release t d now n)
   unfolding release
   release-after P d now n h =
-      unless-after P (releaseRefusals t d now n) (accepted (withEnd t d now n) (item 2 n ∷ letGo t d now n .items)) h
+      by-rules (After P) (releaseRefusals t d now n) (accepted (withEnd t d now n) (item 2 n ∷ letGo t d now n .items)) (λ m. tt) h
 
   -- What each grant of a pass keeps, the pass keeps: P speaks of the state, of all that wait and of the answers so far.
   module _ (P : Core → List Claim → List Item → Type 0)
@@ -58,19 +53,9 @@ module _ (t : Table) where
       P (grant t s c) (ahead ++ rest) (items ++ (grantItem t s c ∷ []))) where
     turn-keeps : (p : Passing) (c : Claim) (rest : List Claim) → P (p .core) (p .ahead ++ (c ∷ rest)) (p .items) →
         P (turn t p c .core) (turn t p c .ahead ++ rest) (turn t p c .items)
-    unfolding turn
-    turn-keeps p c rest h = go (granted t (p .core) (p .ahead) c) refl
-      where
-        new : Bool → Passing
-        new b =
-            cond b
-            (record { core = grant t (p .core) c; ahead = p .ahead; items = p .items ++ (grantItem t (p .core) c ∷ []) })
-            (record { core = p .core; ahead = p .ahead ++ (c ∷ []); items = p .items })
-
-        go : (b : Bool) → granted t (p .core) (p .ahead) c ≡ b → P (new b .core) (new b .ahead ++ rest) (new b .items)
-        go true e = kept (p .core) (p .ahead) c rest (p .items) e h
-        go false e =
-            subst (λ (ws : List Claim). P (p .core) ws (p .items)) (sym (append-assoc (p .ahead) (c ∷ []) rest)) h
+    turn-keeps p c rest h =
+        by-turn t (λ q. P (q .core) (q .ahead ++ rest) (q .items)) p c (λ e. kept (p .core) (p .ahead) c rest (p .items) e h)
+        (λ e. subst (λ (ws : List Claim). P (p .core) ws (p .items)) (sym (append-assoc (p .ahead) (c ∷ []) rest)) h)
 
     pub pass-keeps : (p : Passing) (rest : List Claim) → P (p .core) (p .ahead ++ rest) (p .items) →
         P (passOver t p rest .core) (passOver t p rest .ahead) (passOver t p rest .items)

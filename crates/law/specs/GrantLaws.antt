@@ -1,7 +1,7 @@
 -- Laws of a grant: what it has passed; the starting amount is within its limit, the lock step may be walked claim by claim,
 -- and an answer shows the amount at that grant, whatever a pass grants after it.
 use Prim.Native.Nat.{ℕ, _+_, _≤_, _<_}
-use mathlib.Core.Bool.{Bool, true, false, cond, not, _&&_, and-false}
+use mathlib.Core.Bool.{Bool, true, false, cond, not, _&&_, and-false, true≢false}
 use mathlib.Core.List.{List, [], _∷_, _++_, map, append-assoc, append-nil}
 use mathlib.Core.Path.{_≡_, refl, sym, ap, _∙_}
 use native.Mathlib.Omega.{arith}
@@ -14,7 +14,7 @@ use Rattle.law.specs.declared.Entry.{Entry}
 use Rattle.law.specs.declared.Entry.the-variants.{A, N, D, G}
 use Rattle.law.specs.Base.{allTrue, everyOf, sumOf}
 use Rattle.law.specs.Lists.{All, never-true, sum-append, sum-map, passed}
-use Rattle.law.specs.Says.{says-every, says-self, says-fails}
+use Rattle.law.specs.Says.{by-test, says-every, says-self, says-fails}
 use Rattle.law.specs.Types.{places, Attribute, a0, a1, a2, Kind, sets, adds, reads, Table, Figures, attr, putAttr, Core, Item}
 use Rattle.law.specs.Granting.{addsTo, startBy, limitBy, costBy, amountBy, withAmount, noteBy, addsOn, addable, bearable, ranged, preconditionTests, preconditions, start, limit, gap, cost, total, stays, lockTests, lockStep, grantTests, granted, raised, asGranted, grant, grantItem}
 use Rattle.law.specs.Calls.{Passing, turn, passOver}
@@ -197,32 +197,25 @@ module _ (t : Table) where
   unfolding grantItem
   reading-shows s c m p = (ap (λ (k : Kind). amountBy k (total t s c)) p, refl)
 
+  -- A turn of the pass grants its claim, or leaves it to wait.
+  pub by-turn : (P : Passing → Type 0) (p : Passing) (c : Claim) →
+      (granted t (p .core) (p .ahead) c ≡ true →
+      P (record { core = grant t (p .core) c; ahead = p .ahead; items = p .items ++ (grantItem t (p .core) c ∷ []) })) →
+      (granted t (p .core) (p .ahead) c ≡ false → P (record { core = p .core; ahead = p .ahead ++ (c ∷ []); items = p .items })) →
+      P (turn t p c)
+  unfolding turn
+  by-turn P p c grants waits = by-test P (granted t (p .core) (p .ahead) c) grants waits
+
   -- A turn that grants adds the answer of that very grant; later turns leave it.
   pub turn-answers : (p : Passing) (c : Claim) → granted t (p .core) (p .ahead) c ≡ true →
       turn t p c .items ≡ p .items ++ (grantItem t (p .core) c ∷ [])
-  unfolding turn
   turn-answers p c h =
-      ap (λ (q : Passing). q .items)
-      (ap
-      (λ (b : Bool).
-      cond b
-      (record { core = grant t (p .core) c; ahead = p .ahead; items = p .items ++ (grantItem t (p .core) c ∷ []) })
-      (record { core = p .core; ahead = p .ahead ++ (c ∷ []); items = p .items }))
-      h)
+      by-turn (λ q. q .items ≡ p .items ++ (grantItem t (p .core) c ∷ [])) p c (λ e. refl) (λ e. absurd (true≢false (sym h ∙ e)))
 
   turn-extends : (p : Passing) (c : Claim) → (new : List Item) × (turn t p c .items ≡ p .items ++ new)
-  unfolding turn
-  turn-extends p c = go (granted t (p .core) (p .ahead) c)
-    where
-      new : Bool → Passing
-      new b =
-          cond b
-          (record { core = grant t (p .core) c; ahead = p .ahead; items = p .items ++ (grantItem t (p .core) c ∷ []) })
-          (record { core = p .core; ahead = p .ahead ++ (c ∷ []); items = p .items })
-
-      go : (b : Bool) → (more : List Item) × (new b .items ≡ p .items ++ more)
-      go true = (grantItem t (p .core) c ∷ [], refl)
-      go false = ([], sym (append-nil (p .items)))
+  turn-extends p c =
+      by-turn (λ q. (new : List Item) × (q .items ≡ p .items ++ new)) p c (λ e. (grantItem t (p .core) c ∷ [], refl))
+      (λ e. ([], sym (append-nil (p .items))))
 
   -- The answers of a pass so far stand in front of all that follow, as they were given.
   pub answers-stay : (p : Passing) (cs : List Claim) → (new : List Item) × (passOver t p cs .items ≡ p .items ++ new)

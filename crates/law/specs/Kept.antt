@@ -12,7 +12,7 @@ use Rattle.law.specs.Types.{Attribute, Kind, reads, Table, Figures, attr
 use Rattle.law.specs.Entries.{kindOf}
 use Rattle.law.specs.Granting.{limitBy, tellBy, carriedBy, amountBy, total, growth, stays, granted, raised, asGranted, grant, grantItem}
 use Rattle.law.specs.Calls.{without, landed}
-use Rattle.law.specs.QueueLaws.{ended-cases}
+use Rattle.law.specs.QueueLaws.{ended-cases, all-without}
 use Rattle.law.specs.TicketLaws.{Apart, Ticketed, ticketed-end, ticketed-leave, ticketed-new, ticketed-grant}
 use Rattle.law.specs.GrantLaws.{NotNever, MayGrant, grant-says}
 use Rattle.law.specs.Near.{gapOn, shareOf}
@@ -101,8 +101,7 @@ module _ (t : Table) where
         borne =
             all-say (AllBorne f active) (AllBorne f′ left)
             (λ i g z.
-            ended-cases t (λ us k vs. All (Borne f′ left i) us → All (Borne f′ left i) vs) f n
-            (λ us k. k) (λ xs w ys. all-less (Borne f′ left i) xs w ys) active
+            all-without (Borne f′ left i) n active
             (all-say (Borne f active i) (Borne f′ left i)
             (λ r b q m p.
             let old = b q m p in

@@ -4,7 +4,7 @@ use mathlib.Core.Bool.{Bool, true, false, cond, _&&_, _||_}
 use mathlib.Core.List.{List, [], _∷_, _++_, map}
 use mathlib.Core.Path.{_≡_, refl, ap, _∙_, subst}
 use native.Mathlib.Omega.{arith}
-use lib.ListN.{length, getD}
+use lib.ListN.{length, getD, replicate}
 use Rattle.law.specs.Base.{allTrue, everyOf, anyOf, sumOf}
 
 -- P holds of every element.
@@ -198,3 +198,9 @@ module _ {A : Type 0} (g : A → A) (xs : List A) (y : A) where
   pub pairs-grown : (R : A → A → Type 0) → ((x z : A) → R x z → R (g x) (g z)) → Pairs R xs → All (λ x. R (g x) y) xs →
       Pairs R (map g xs ++ (y ∷ []))
   pairs-grown R same h k = pairs-last R (map g xs) y (pairs-map R R g same xs h) (all-map (λ x. R x y) g xs k)
+
+-- A list of one element over and over has it everywhere, also past its end.
+pub getD-filled : {A : Type 0} (n i : ℕ) (x : A) → getD (replicate n x) i x ≡ x
+getD-filled zero i x = refl
+getD-filled (suc n) zero x = refl
+getD-filled (suc n) (suc i) x = getD-filled n i x

@@ -9,6 +9,7 @@ use lib.Dec.{ltb, eqb}
 use borrow.Author.Tests.{ltb-true, ltb-false, lt-ltb, eqb-true, eqb-false}
 use Rattle.law.specs.declared.Claim.{Claim}
 use Rattle.law.specs.Lists.{all-more, All, Pairs, never-true, all-say}
+use Rattle.law.specs.Says.{by-test}
 use Rattle.law.specs.Types.{Table, Figures}
 use Rattle.law.specs.Calls.{hasTicket, without, landBy, landed, before, queue}
 use Rattle.law.specs.Entries.{kindOf}
@@ -30,17 +31,22 @@ ended-cases t P f n none one (w ∷ ws) =
     go true h = one [] w ws
     go false h = h
 
+-- What holds of all holds of all that are left.
+pub all-without : (P : Claim → Type 0) (n : ℕ) (ws : List Claim) → All P ws → All P (without n ws)
+all-without P n [] h = tt
+all-without P n (w ∷ ws) h = by-test (All P) (hasTicket n w) (λ e. h .1) (λ e. (h .0, all-without P n ws (h .1)))
+
 -- ---- a claim at its place in the pass's order
 
 pub queue-cases : (P : List Claim → List Claim → Type 0) (c : Claim) →
     ((xs ys : List Claim) → P (xs ++ ys) (xs ++ (c ∷ ys))) → (ws : List Claim) → P ws (queue c ws)
 queue-cases P c one [] = one [] []
 queue-cases P c one (w ∷ ws) =
-    go (before w c) (queue-cases (λ vs us. P (w ∷ vs) (w ∷ us)) c (λ xs ys. one (w ∷ xs) ys) ws)
-  where
-    go : (b : Bool) → P (w ∷ ws) (w ∷ queue c ws) → P (w ∷ ws) (cond b (w ∷ queue c ws) (c ∷ w ∷ ws))
-    go true h = h
-    go false h = one [] (w ∷ ws)
+    by-test (P (w ∷ ws)) (before w c) (λ e. queue-cases (λ vs us. P (w ∷ vs) (w ∷ us)) c (λ xs ys. one (w ∷ xs) ys) ws)
+    (λ e. one [] (w ∷ ws))
+
+pub all-queued : (P : Claim → Type 0) (c : Claim) → P c → (ws : List Claim) → All P ws → All P (queue c ws)
+all-queued P c h = queue-cases (λ vs us. All P vs → All P us) c (λ xs ys. all-more P xs c ys h)
 
 abbrev pub Before : Claim → Claim → Type 0
 Before x y = before x y ≡ true
@@ -73,12 +79,9 @@ before-fails w c h e = go (ltb (c .priority) (w .priority)) (eqb (w .priority) (
 -- The claim of the latest ticket goes behind all that are before it; so the order stands.
 pub queue-ordered : (c : Claim) (ws : List Claim) → All (λ w. w .ticket < c .ticket) ws → Pairs Before ws → Pairs Before (queue c ws)
 queue-ordered c [] h p = (tt, tt)
-queue-ordered c (w ∷ ws) h p = go (before w c) refl (queue-ordered c ws (h .1) (p .1))
-  where
-    go : (b : Bool) → before w c ≡ b → Pairs Before (queue c ws) → Pairs Before (cond b (w ∷ queue c ws) (c ∷ w ∷ ws))
-    go true e k =
-        (queue-cases (λ vs us. All (Before w) vs → All (Before w) us) c (λ xs ys. all-more (Before w) xs c ys e) ws (p .0), k)
-    go false e k =
-        let lower : w .priority < c .priority = before-fails w c (h .0) e in
-        let behind : All (Before c) ws = all-say (Before w) _ (λ y i. before-tests c y (omega (arith, before-says w y i))) ws (p .0) in
-        ((before-tests c w lower, behind), p)
+queue-ordered c (w ∷ ws) h p =
+    by-test (Pairs Before) (before w c) (λ e. (all-queued (Before w) c e ws (p .0), queue-ordered c ws (h .1) (p .1)))
+    (λ e.
+    let lower : w .priority < c .priority = before-fails w c (h .0) e in
+    let behind : All (Before c) ws = all-say (Before w) _ (λ y i. before-tests c y (omega (arith, before-says w y i))) ws (p .0) in
+    ((before-tests c w lower, behind), p))

@@ -13,7 +13,7 @@ use Rattle.law.specs.Types.{mostError, places, lastTicket, Table, Disk, 
 use Rattle.law.specs.Calls.{Rule, unless, fieldTests, hasTicket, openRefusals, openDisk, asked, grantedAtOnce, refusals, decided, claim, releaseRefusals, release}
 use Rattle.law.specs.History.{Call, claims, releases, History, after, answered}
 use Rattle.law.specs.Events.{NoneHolds}
-use Rattle.law.specs.Says.{Says, fails, says-le, says-lt, says-eq, says-not, says-neither, says-none, says-two}
+use Rattle.law.specs.Says.{by-test, Says, fails, says-le, says-lt, says-eq, says-not, says-neither, says-none, says-two}
 use Rattle.law.specs.FieldLaws.{says-fields, says-exceeds}
 use Rattle.law.specs.Sentences.{Sentence, FirstHolds, Lacks, openSentences, claimSentences, releaseSentences, sentencesOf}
 use Rattle.law.specs.Entries.{kindAt}
@@ -32,12 +32,8 @@ Accepts (accepted d items) = Unit {0}
 
 first-of : (n : ℕ) (rs : List Rule) (good : Outcome) → Accepts good → unless rs good ≡ refused n → First n rs
 first-of n [] good a e = subst Accepts e a
-first-of n (r ∷ rs) good a e = go (r .when) refl e (first-of n rs good a)
-  where
-    go : (b : Bool) → r .when ≡ b → cond b (refused (r .number)) (unless rs good) ≡ refused n →
-        (unless rs good ≡ refused n → First n rs) → First n (r ∷ rs)
-    go true p q rest = inl (p, cc)
-    go false p q rest = inr (p, rest q)
+first-of n (r ∷ rs) good a e =
+    by-test (λ o. o ≡ refused n → First n (r ∷ rs)) (r .when) (λ p q. inl (p, cc)) (λ p q. inr (p, first-of n rs good a q)) e
 
 refused-first : (n : ℕ) (rs : List Rule) (good : Outcome) → First n rs → unless rs good ≡ refused n
 refused-first n [] good f = absurd f
@@ -118,11 +114,7 @@ open-refused-by-rule n now l0 l1 =
 module _ (t : Table) where
   -- A claim that no rule refuses is granted or waits.
   decided-accepts : (d : Disk) (q : Asked) → Accepts (decided t d q)
-  decided-accepts d q = go (grantedAtOnce t d q) refl
-    where
-      go : (b : Bool) → grantedAtOnce t d q ≡ b → Accepts (decided t d q)
-      go true e = rw e tt
-      go false e = rw e tt
+  decided-accepts d q = by-test Accepts (grantedAtOnce t d q) (λ e. tt) (λ e. tt)
 
   pub claim-refused-exactly : (n : ℕ) (d : Disk) (q : Asked) → (claim t d q ≡ refused n) ↔ First n (refusals t d q)
   unfolding claim

@@ -1,6 +1,6 @@
 -- Laws of tests: what a test says, and what tests made of tests say.
 use Prim.Native.Nat.{ℕ, zero, suc, _≤_, _<_}
-use mathlib.Core.Bool.{Bool, true, false, not, _&&_, _||_, false≢true, true≢false}
+use mathlib.Core.Bool.{Bool, true, false, cond, not, _&&_, _||_, false≢true, true≢false}
 use mathlib.Core.List.{List, [], _∷_}
 use mathlib.Core.Logic.{_↔_}
 use mathlib.Core.Path.{_≡_, refl, ap}
@@ -13,6 +13,11 @@ use Rattle.law.specs.Lists.{All, Pairs, and-left, and-right}
 -- The test passes exactly if P holds.
 abbrev pub Says : Bool → Type 0 → Type 0
 Says b P = (b ≡ true) ↔ P
+
+-- What holds of both holds of what a test chooses.
+pub by-test : {X : Type 0} (P : X → Type 0) (b : Bool) {x y : X} → (b ≡ true → P x) → (b ≡ false → P y) → P (cond b x y)
+by-test P true holds fails = holds refl
+by-test P false holds fails = fails refl
 
 -- ---- tests of numbers
 

@@ -17,7 +17,7 @@ use Rattle.law.specs.Sound.{BareBy, ReadingBy, LimitFits, Formed, Passes
 use Rattle.law.specs.Fields.{ValueFits}
 use Rattle.law.specs.History.{Call, claims, releases, answered, begun, lived}
 use Rattle.law.specs.Says.{_and_}
-use Rattle.law.specs.Events.{After, NoneHolds, unless-after, claim-after, release-after, pass-keeps, lived-keeps}
+use Rattle.law.specs.Events.{After, NoneHolds, by-rules, claim-after, release-after, pass-keeps, lived-keeps}
 use Rattle.law.specs.SoundTest.{unrefused}
 use Rattle.law.specs.AttributeLaws.{value-sum}
 use Rattle.law.specs.QueueLaws.{Before, ended-cases, queue-cases, queue-ordered}
@@ -179,7 +179,7 @@ module _ (t : Table) where
   pub sound-open : (now l0 l1 : ℕ) → After (λ e items. Sound t e) (openDisk now l0 l1)
   unfolding openDisk
   sound-open now l0 l1 =
-      unless-after (λ e items. Sound t e) (openRefusals l0 l1) (accepted (opened now l0 l1) (item 3 0 ∷ []))
+      by-rules (After (λ e items. Sound t e)) (openRefusals l0 l1) (accepted (opened now l0 l1) (item 3 0 ∷ [])) (λ n. tt)
       (λ ok.
       let limits = passed (leb l0 mostError ∷ leb l1 mostError ∷ []) (not-false _ (ok .0)) in
       sound-opened now l0 l1 (leb-true l0 mostError (limits .0)) (leb-true l1 mostError (limits .1 .0)))

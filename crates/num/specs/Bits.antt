@@ -22,11 +22,15 @@ pub bit-zero : (a : ℕ) → hasBit 0 a ≡ false
 unfolding hasBit
 bit-zero a = rw zero-div
 
+-- What holds of 0 and of 1 holds of a bit.
+by-bit : (P : ℕ → Type 0) → P 0 → P 1 → (r : ℕ) → r < 2 → P r
+by-bit P none one zero h = none
+by-bit P none one (suc zero) h = one
+by-bit P none one (suc (suc r)) h = absurd (omega arith)
+
 -- Either bit, joined with 1, is 1.
 or-one : (r : ℕ) → r < 2 → bitOr r 1 ≡ 1
-or-one zero h = refl
-or-one (suc zero) h = refl
-or-one (suc (suc r)) h = absurd (omega arith)
+or-one = by-bit (λ r. bitOr r 1 ≡ 1) refl refl
 
 -- A bit that is set is there.
 pub bit-set : (m a : ℕ) → hasBit (bitOr m (2 ^ a)) a ≡ true
@@ -59,21 +63,14 @@ or-none a b e =
 
 -- A bit of both is one of each.
 and-one : (r s : ℕ) → r < 2 → s < 2 → eqb (bitAnd r s) 1 ≡ (eqb r 1 && eqb s 1)
-and-one zero s h k = refl
-and-one (suc zero) zero h k = refl
-and-one (suc zero) (suc zero) h k = refl
-and-one (suc zero) (suc (suc s)) h k = absurd (omega arith)
-and-one (suc (suc r)) s h k = absurd (omega arith)
+and-one r s h k =
+    by-bit (λ r. eqb (bitAnd r s) 1 ≡ (eqb r 1 && eqb s 1)) refl (by-bit (λ s. eqb (bitAnd 1 s) 1 ≡ eqb s 1) refl refl s k) r h
 
 -- Either bit of two.
 or-two : (r s : ℕ) → r < 2 → s < 2 → eqb (bitOr r s) 1 ≡ (eqb r 1 || eqb s 1)
-or-two zero zero h k = refl
-or-two zero (suc zero) h k = refl
-or-two zero (suc (suc s)) h k = absurd (omega arith)
-or-two (suc zero) zero h k = refl
-or-two (suc zero) (suc zero) h k = refl
-or-two (suc zero) (suc (suc s)) h k = absurd (omega arith)
-or-two (suc (suc r)) s h k = absurd (omega arith)
+or-two r s h k =
+    by-bit (λ r. eqb (bitOr r s) 1 ≡ (eqb r 1 || eqb s 1)) (by-bit (λ s. eqb (bitOr 0 s) 1 ≡ eqb s 1) refl refl s k)
+    (by-bit (λ s. eqb (bitOr 1 s) 1 ≡ true) refl refl s k) r h
 
 pub bit-either : (m n a : ℕ) → hasBit (bitOr m n) a ≡ (hasBit m a || hasBit n a)
 unfolding hasBit
@@ -120,9 +117,7 @@ or-apart m n k e f = bits-none (bitAnd (bitOr m n) k) (λ a. bit-both (bitOr m n
 
 -- The lowest bit, as a count.
 lowest : (r : ℕ) → r < 2 → cond (eqb r 1) 1 0 ≡ r
-lowest zero h = refl
-lowest (suc zero) h = refl
-lowest (suc (suc r)) h = absurd (omega arith)
+lowest = by-bit (λ r. cond (eqb r 1) 1 0 ≡ r) refl refl
 
 first-bit : (m : ℕ) → countTo (hasBit m) 1 ≡ m % 2
 unfolding hasBit countTo

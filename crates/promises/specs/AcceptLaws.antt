@@ -11,12 +11,13 @@ use lib.ListN.{length}
 use Rattle.num.specs.Opened.{openAt}
 use Rattle.law.specs.declared.Claim.{Claim}
 use Rattle.law.specs.Lists.{All}
-use Rattle.law.specs.Types.{places, Core, Disk as LawDisk, Asked, Outcome, refused, accepted}
+use Rattle.law.specs.Types.{places, Core, Disk as LawDisk, Asked, Outcome, accepted}
 use Rattle.law.specs.Granting.{preconditions, lockStep, bars, granted, grantItem}
 use Rattle.law.specs.Calls.{Rule, unless, item, opened as openedDisk, openRefusals, openDisk, at, asked, grantedAtOnce, refusals, decidedBy, decided, claim, releaseRefusals, withEnd, letGo, release}
 use Rattle.law.specs.History.{claims, releases, answered}
 use Rattle.law.specs.DiskType.{diskTable}
-use Rattle.law.specs.Says.{Says, fails, says-lt, says-self, says-fails, says-none, none, _⊳_ as _then_, says-row, _and_}
+use Rattle.law.specs.Events.{by-rules}
+use Rattle.law.specs.Says.{by-test, Says, fails, says-lt, says-self, says-fails, says-none, none, _⊳_ as _then_, says-row, _and_}
 use Rattle.law.specs.Sentences.{Sentence, FirstHolds}
 use Rattle.answer.specs.Answers.{refusalOf}
 use Rattle.answer.specs.AnswerLaws.{number-range}
@@ -69,24 +70,15 @@ says-grants s waiting c =
 -- No test of the first six refuses.
 first-rest : (ts : List Rule) (x : ℕ) → All (λ t. 9 ≤ t .number) ts → firstOf ts x ≤ 3 → firstOf ts x ≡ x
 first-rest [] x n h = refl
-first-rest (t ∷ ts) x n h = go (t .when) (first-rest ts x (n .1)) h
-  where
-    go : (w : Bool) → (firstOf ts x ≤ 3 → firstOf ts x ≡ x) → cond w (t .number) (firstOf ts x) ≤ 3 →
-        cond w (t .number) (firstOf ts x) ≡ x
-    go true more k = absurd (omega (arith, k, n .0))
-    go false more k = more k
+first-rest (t ∷ ts) x n h =
+    by-test (λ y. y ≤ 3 → y ≡ x) (t .when) (λ e k. absurd (omega (arith, k, n .0))) (λ e. first-rest ts x (n .1)) h
 
 -- No rule of the law does.
 unless-code : (rs : List Rule) (good : Outcome) → outcomeCode (unless rs good) ≤ 3 →
     outcomeCode (unless rs good) ≡ outcomeCode good
-unless-code [] good h = refl
-unless-code (r ∷ rs) good h = go (r .when) (unless-code rs good) h
-  where
-    go : (w : Bool) → (outcomeCode (unless rs good) ≤ 3 → outcomeCode (unless rs good) ≡ outcomeCode good) →
-        outcomeCode (cond w (refused (r .number)) (unless rs good)) ≤ 3 →
-        outcomeCode (cond w (refused (r .number)) (unless rs good)) ≡ outcomeCode good
-    go true more k = absurd (omega (arith, k, number-range (refusalOf (r .number)) .0))
-    go false more k = more k
+unless-code rs good =
+    by-rules (λ o. outcomeCode o ≤ 3 → outcomeCode o ≡ outcomeCode good) rs good
+    (λ n k. absurd (omega (arith, k, number-range (refusalOf n) .0))) (λ ok k. refl)
 
 open-code : (now l0 l1 : ℕ) → outcomeCode (openDisk now l0 l1) ≤ 3 → outcomeCode (openDisk now l0 l1) ≡ 3
 unfolding openDisk answerOf

@@ -4,34 +4,30 @@ use mathlib.Core.Bool.{Bool, true, false, cond}
 use mathlib.Core.List.{List, [], _∷_, _++_, append-assoc, append-nil}
 use mathlib.Core.Logic.{inl}
 use mathlib.Core.Path.{_≡_, refl, sym, ap, subst, _∙_}
-use native.Mathlib.Omega.{arith}
-use borrow.Author.Tests.{eqb-true, eqb-false, eq-eqb}
+use borrow.Author.Tests.{eq-eqb}
 use lib.Dec.{eqb}
-use lib.ListN.{length}
 use Rattle.num.specs.Word.{wordAt}
 use Rattle.num.specs.Opened.{openAt}
 use Rattle.law.specs.declared.Claim.{Claim}
 use Rattle.law.specs.Lists.{All, all-say, all-append, all-left, all-right, all-there, all-less, all-grown}
 use Rattle.law.specs.Types.{Core, Disk as LawDisk, claimOf}
 use Rattle.law.specs.Granting.{grant, grantItem, raised, asGranted}
-use Rattle.law.specs.Calls.{hasTicket, without, before, queue, opened, asked, at, finish, letGo, withEnd}
+use Rattle.law.specs.Calls.{without, queue, opened, asked, at, finish, letGo, withEnd}
 use Rattle.law.specs.Sound.{claimsOn}
+use Rattle.law.specs.QueueLaws.{all-without, all-queued}
 use Rattle.law.specs.Events.{After, claim-after, release-after, pass-keeps}
 use Rattle.law.specs.History.{claims, releases, answered}
 use Rattle.law.specs.DiskType.{diskTable}
-use Rattle.answer.specs.Answers.{answerSize}
-use Rattle.desk.specs.Record.{kindOf, diskOf, nowOf, askedOf, usedLimit, promisedLimit}
-use Rattle.desk.specs.Board.{disks, partOf, withPart}
-use Rattle.desk.specs.BoardLaws.{part-same, part-open}
-use Rattle.part.specs.Held.{held, partFor}
-use Rattle.part.specs.PartLaws.{held-part}
-use Rattle.desk.specs.Step.{Said, Told}
-use Rattle.promises.specs.Histories.{Call, BytesIn, stepBy, History, after, lived}
+use Rattle.desk.specs.Record.{kindOf, diskOf, nowOf, askedOf}
+use Rattle.desk.specs.Board.{disks, partOf}
+use Rattle.part.specs.Held.{held}
+use Rattle.desk.specs.Step.{Said, tells}
+use Rattle.promises.specs.Histories.{Call, BytesIn, stepBy, saidBy, History, after, lived}
 use Rattle.promises.specs.Asks.{asAsked, Claimed, takenBy, taken, claimedOn, claimed, AsAsked}
 use Rattle.promises.specs.SomeLaws.{some-left, some-right}
-use Rattle.promises.specs.CaseLaws.{Case, isRefused, isOpened, isServed, told-case, now-fits, opened-sound, opened-size, served-sound, served-now, served-size}
-use Rattle.promises.specs.LifeLaws.{Whole, board-9, board-told, said-told, whole-after}
-use Rattle.promises.specs.Kept.{other-parts, other-bits}
+use Rattle.promises.specs.CaseLaws.{opened-held, served-held}
+use Rattle.promises.specs.LifeLaws.{Whole, whole-after}
+use Rattle.promises.specs.TurnLaws.{Turn, stays, opens, serves, turn}
 
 -- ---- one call on one disk
 
@@ -39,22 +35,6 @@ module _ (past : List Claimed) where
   -- They all are as asked.
   abbrev Asks : List Claim → Type 0
   Asks ws = All (AsAsked past) ws
-
-  queue-asked : (c : Claim) (ws : List Claim) → AsAsked past c → Asks ws → Asks (queue c ws)
-  queue-asked c [] q h = (q, tt)
-  queue-asked c (w ∷ ws) q h = go (before w c) (queue-asked c ws q)
-    where
-      go : (v : Bool) → (Asks ws → Asks (queue c ws)) → Asks (cond v (w ∷ queue c ws) (c ∷ w ∷ ws))
-      go true more = (h .0, more (h .1))
-      go false more = (q, h)
-
-  without-asked : (n : ℕ) (ws : List Claim) → Asks ws → Asks (without n ws)
-  without-asked n [] h = tt
-  without-asked n (w ∷ ws) h = go (hasTicket n w) (without-asked n ws)
-    where
-      go : (v : Bool) → (Asks ws → Asks (without n ws)) → Asks (cond v ws (w ∷ without n ws))
-      go true more = h .1
-      go false more = (h .0, more (h .1))
 
   grant-asked : (s : Core) (c : Claim) → AsAsked past c → Asks (s .active) → Asks (grant diskTable s c .active)
   unfolding grant
@@ -70,8 +50,8 @@ module _ (past : List Claimed) where
       (grant-asked s c (all-there (AsAsked past) ahead c rest (k .1)) (k .0), all-less (AsAsked past) ahead c rest (k .1)))
       (record { core = finish diskTable (at d now) n; ahead = []; items = [] })
       (without n (d .waiting)) (
-        without-asked n (d .core .active) (all-left (AsAsked past) (d .core .active) (d .waiting) h),
-        without-asked n (d .waiting) (all-right (AsAsked past) (d .core .active) (d .waiting) h),
+        all-without (AsAsked past) n (d .core .active) (all-left (AsAsked past) (d .core .active) (d .waiting) h),
+        all-without (AsAsked past) n (d .waiting) (all-right (AsAsked past) (d .core .active) (d .waiting) h),
       ) in
       all-append (AsAsked past) (letGo diskTable d now n .core .active) (letGo diskTable d now n .ahead) (p .0) (p .1)
 
@@ -110,7 +90,7 @@ module _ (past : List Claimed) (d : LawDisk) (r : List ℕ) (h : All (AsAsked pa
       waiting)
       (λ ok g.
       all-append (AsAsked (past ++ own)) (d .core .active) (queue c (d .waiting)) active
-      (queue-asked (past ++ own) c (d .waiting) new waiting))
+      (all-queued (AsAsked (past ++ own)) c new (d .waiting) waiting))
   call-asked false =
       release-after diskTable (λ e items. All (AsAsked (past ++ takenBy false items r)) (claimsOn e)) d (nowOf r) (wordAt r 12)
       (λ ok. end-asked (past ++ []) d (nowOf r) (wordAt r 12) (more-asked past [] (claimsOn d) h))
@@ -134,70 +114,26 @@ module _ (h : History) (k : Call) (w : Whole h) (bs : BytesIn k) (past : ℕ →
   abbrev later : ℕ → List Claimed
   later d = past d ++ claimedOn (h .board) k d
 
-  -- A disk whose part and bit are as they were.
-  same-asked : (d : ℕ) → d < disks → partOf (stepBy b k .bytes) d ≡ partOf b d → openAt (stepBy b k .bytes) d ≡ openAt b d →
-      openAt (stepBy b k .bytes) d ≡ true → All (AsAsked (later d)) (claimsOn (held (partOf (stepBy b k .bytes) d)))
-  same-asked d l p q o =
-      subst (λ (s : List ℕ). All (AsAsked (later d)) (claimsOn (held s))) (sym p)
-      (more-asked (past d) (claimedOn b k d) (claimsOn (held (partOf b d))) (kept d l (sym q ∙ o)))
-
-  stays-asked : dk < disks → stepBy b k .bytes ≡ b → openAt (stepBy b k .bytes) dk ≡ true →
-      All (AsAsked (later dk)) (claimsOn (held (partOf (stepBy b k .bytes) dk)))
-  stays-asked l e o =
-      same-asked dk l (ap (λ (x : List ℕ). partOf x dk) e) (ap (λ (x : List ℕ). openAt x dk) e) o
-
-  -- The call's own disk.
-  own-asked : dk < disks → openAt (stepBy b k .bytes) dk ≡ true →
-      All (AsAsked (later dk)) (claimsOn (held (partOf (stepBy b k .bytes) dk)))
-  unfolding opened
-  own-asked l o = go (eqb (length (k .buffer)) answerSize) refl
-    where
-      told : eqb (length (k .buffer)) answerSize ≡ true → Case b r →
-          All (AsAsked (later dk)) (claimsOn (held (partOf (stepBy b k .bytes) dk)))
-      told e (isRefused x t) = stays-asked l (board-told b k (w .size) e ∙ ap (λ (y : Told). y .bytes) t) o
-      told e (isOpened f known off f0 f1 t) =
-          subst (λ (s : List ℕ). All (AsAsked (later dk)) (claimsOn (held s)))
-          (sym
-          (ap (λ (x : List ℕ). partOf x dk) (board-told b k (w .size) e ∙ ap (λ (y : Told). y .bytes) t)
-          ∙ part-open (withPart b dk (partFor (opened (nowOf r) (usedLimit r) (promisedLimit r)))) dk dk known
-          ∙ part-same b dk (w .size) known (partFor (opened (nowOf r) (usedLimit r) (promisedLimit r))) (opened-size r)))
-          (subst (λ (x : LawDisk). All (AsAsked (later dk)) (claimsOn x))
-          (sym
-          (held-part (opened (nowOf r) (usedLimit r) (promisedLimit r)) (opened-sound r f0 f1) (now-fits r bs)))
-          tt)
-      told e (isServed f known was s g items a t) =
-          subst (λ (x : List ℕ). All (AsAsked (later dk)) (claimsOn (held x)))
-          (sym
-          (ap (λ (x : List ℕ). partOf x dk) (board-told b k (w .size) e ∙ ap (λ (y : Told). y .bytes) t)
-          ∙ part-same b dk (w .size) known (partFor g) (served-size (partOf b dk) r bs f s g items a)))
-          (subst (λ (x : LawDisk). All (AsAsked (later dk)) (claimsOn x))
-          (sym
-          (held-part g (served-sound (partOf b dk) r bs f s g items a)
-          (omega (arith, served-now (partOf b dk) r bs f s g items a, now-fits r bs))))
-          (subst (λ (x : List Claimed). All (AsAsked (past dk ++ x)) (claimsOn g)) (sym items-are)
-          (subst (After (λ x ys. All (AsAsked (past dk ++ takenBy (eqb (kindOf r) 2) ys r)) (claimsOn x))) a
-          (call-asked (past dk) (held (partOf b dk)) r (kept dk known was) (eqb (kindOf r) 2)))))
-        where
-          items-are : claimedOn b k dk ≡ takenBy (eqb (kindOf r) 2) items r
-          items-are =
-              rw (eq-eqb dk dk refl)
-              (ap (λ (x : Said). taken x r) (said-told b k (w .size) e ∙ ap (λ (y : Told). y .said) t))
-
-      go : (v : Bool) → eqb (length (k .buffer)) answerSize ≡ v →
-          All (AsAsked (later dk)) (claimsOn (held (partOf (stepBy b k .bytes) dk)))
-      go true e = told e (told-case b r (w .size))
-      go false e = stays-asked l (board-9 b k (w .size) e) o
+  -- What the call takes on its own disk, by what it says.
+  own-taken : (x : Said) → saidBy b k ≡ x → claimedOn b k dk ≡ taken x r
+  own-taken x i = rw (eq-eqb dk dk refl) (ap (λ (y : Said). taken y r) i)
 
   step-asked : EachAsked (stepBy b k .bytes) later
-  step-asked d l o = go (eqb d dk) refl
+  unfolding opened
+  step-asked d l o = go (turn b k (w .size) bs d l) l o
     where
-      go : (v : Bool) → eqb d dk ≡ v → All (AsAsked (later d)) (claimsOn (held (partOf (stepBy b k .bytes) d)))
-      go true v =
-          subst (λ (e : ℕ). All (AsAsked (later e)) (claimsOn (held (partOf (stepBy b k .bytes) e)))) (sym (eqb-true d dk v))
-          (own-asked (subst (λ (e : ℕ). e < disks) (eqb-true d dk v) l)
-          (subst (λ (e : ℕ). openAt (stepBy b k .bytes) e ≡ true) (eqb-true d dk v) o))
-      go false v =
-          same-asked d l (other-parts b r (k .buffer) bs d l (eqb-false d dk v)) (other-bits b r (k .buffer) bs d l (eqb-false d dk v)) o
+      go : {d : ℕ} → Turn b k d → d < disks → openAt (stepBy b k .bytes) d ≡ true →
+          All (AsAsked (later d)) (claimsOn (held (partOf (stepBy b k .bytes) d)))
+      go {d} (stays q p i) l o =
+          subst (λ (s : List ℕ). All (AsAsked (later d)) (claimsOn (held s))) (sym p)
+          (more-asked (past d) (claimedOn b k d) (claimsOn (held (partOf b d))) (kept d l (sym q ∙ o)))
+      go (opens off f0 f1 on p i) l o =
+          subst (λ (x : LawDisk). All (AsAsked (later dk)) (claimsOn x)) (sym (ap held p ∙ opened-held r bs f0 f1)) tt
+      go (serves f was s g items a on p i) l o =
+          subst (λ (x : LawDisk). All (AsAsked (later dk)) (claimsOn x)) (sym (ap held p ∙ served-held (partOf b dk) r bs f s g items a))
+          (subst (λ (x : List Claimed). All (AsAsked (past dk ++ x)) (claimsOn g)) (sym (own-taken (tells items) i))
+          (subst (After (λ x ys. All (AsAsked (past dk ++ takenBy (eqb (kindOf r) 2) ys r)) (claimsOn x))) a
+          (call-asked (past dk) (held (partOf b dk)) r (kept dk l was) (eqb (kindOf r) 2))))
 
 -- ---- any calls
 

@@ -1,21 +1,20 @@
 -- Laws: a call on a board of the right length refuses and leaves it, or opens a disk, or is served by the law on a sound part.
 use Prim.Native.Nat.{ℕ, _≤_, _<_, _^_}
-use mathlib.Core.Bool.{Bool, true, false, cond, not}
+use mathlib.Core.Bool.{true, false}
 use mathlib.Core.List.{List, [], _∷_}
 use mathlib.Core.Path.{_≡_, refl, ap, subst, _∙_}
 use native.Mathlib.Omega.{arith}
-use borrow.Author.Tests.{leb-true, leb-false}
-use lib.Dec.{leb, eqb}
+use borrow.Author.Tests.{leb-true, not-false}
+use lib.Dec.{leb}
 use lib.ListN.{length}
-use Rattle.num.specs.Word.{Bytes, wordAt}
+use Rattle.num.specs.Word.{Bytes}
 use Rattle.num.specs.WordLaws.{word-at-fits}
 use Rattle.num.specs.Opened.{openAt, setOpen}
-use Rattle.law.specs.Base.{allTrue}
 use Rattle.law.specs.Lists.{passed}
 use Rattle.law.specs.Types.{mostError, Disk as LawDisk, Item, Outcome, refused, accepted}
 use Rattle.law.specs.Granting.{grant}
-use Rattle.law.specs.Calls.{item, at, opened, openDisk, finish, without}
-use Rattle.law.specs.Events.{After, claim-after, release-after, pass-keeps}
+use Rattle.law.specs.Calls.{item, at, opened, openRefusals, openDisk, finish, without}
+use Rattle.law.specs.Events.{After, by-rules, claim-after, release-after, pass-keeps}
 use Rattle.law.specs.History.{Call as LawCall, claims, releases, answered}
 use Rattle.law.specs.Sound.{Sound}
 use Rattle.law.specs.SoundKept.{ReadableCall, sound-kept, sound-opened}
@@ -24,13 +23,14 @@ use Rattle.law.specs.DiskType.{diskTable}
 use Rattle.answer.specs.declared.Refusal.{Refusal}
 use Rattle.answer.specs.declared.Refusal.the-variants as R
 use Rattle.answer.specs.Answers.{refusalOf}
-use Rattle.desk.specs.Record.{wellFormed, kindOf, diskOf, nowOf, askedOf, callOf, usedLimit, promisedLimit}
+use Rattle.desk.specs.Record.{wellFormed, diskOf, nowOf, askedOf, callOf, usedLimit, promisedLimit}
 use Rattle.desk.specs.Board.{disks, boardBytes, partOf, withPart}
 use Rattle.desk.specs.BoardLaws.{with-same}
 use Rattle.part.specs.Held.{held, partFor, soundPart}
-use Rattle.part.specs.PartLaws.{sound-held, length-part-for}
+use Rattle.part.specs.PartLaws.{sound-held, held-part, length-part-for}
 use Rattle.promises.specs.RefusalLaws.{says-formed}
-use Rattle.desk.specs.Step.{tells, telling, refusing, settled, serveOf, onPart, opening, onDisk, onBoard, tellOf}
+use Rattle.desk.specs.Step.{tells, telling, refusing, settled, serveOf, onPart, opening, tellOf}
+use Rattle.desk.specs.StepLaws.{by-call, by-serve, by-tell}
 
 -- ---- the cases
 
@@ -49,82 +49,41 @@ module _ (b r : List ℕ) (whole : length b ≡ boardBytes) where
   abbrev d : ℕ
   d = diskOf r
 
-  module _ (w : wellFormed r ≡ true) where
-    told-board : tellOf b r ≡ onBoard b r
-    unfolding tellOf
-    told-board = rw w
+  -- A refusal on the part leaves the board.
+  part-refused : d < disks → (x : Refusal) → onPart b d (refusing (partOf b d) x) ≡ refusing b x
+  part-refused known x = ap (λ (c : List ℕ). refusing c x) (with-same b d whole known)
 
-    module _ (h : leb disks d ≡ false) where
-      known : d < disks
-      known = leb-false disks d h
+  open-case : wellFormed r ≡ true → d < disks → openAt b d ≡ false →
+      tellOf b r ≡ opening b d (openDisk (nowOf r) (usedLimit r) (promisedLimit r)) → Case b r
+  unfolding openDisk
+  open-case w known o =
+      by-rules (λ z. tellOf b r ≡ opening b d z → Case b r) (openRefusals (usedLimit r) (promisedLimit r))
+      (accepted (opened (nowOf r) (usedLimit r) (promisedLimit r)) (item 3 0 ∷ [])) (λ n e. isRefused (refusalOf n) e)
+      (λ ok e.
+      let p = passed (leb (usedLimit r) mostError ∷ leb (promisedLimit r) mostError ∷ []) (not-false _ (ok .0)) in
+      isOpened w known o (leb-true (usedLimit r) mostError (p .0)) (leb-true (promisedLimit r) mostError (p .1 .0)) e)
 
-      told-disk : tellOf b r ≡ onDisk b r d
-      unfolding onBoard
-      told-disk = told-board ∙ rw h
-
-      -- A refusal on the part leaves the board.
-      part-refused : (x : Refusal) → onPart b d (refusing (partOf b d) x) ≡ refusing b x
-      part-refused x = ap (λ (c : List ℕ). refusing c x) (with-same b d whole known)
-
-      open-case : eqb (kindOf r) 1 ≡ true → openAt b d ≡ false → Case b r
-      unfolding openDisk
-      open-case k o =
-          go (allTrue (leb (usedLimit r) mostError ∷ leb (promisedLimit r) mostError ∷ [])) refl (told-disk ∙ rw (k, o))
-        where
-          outcome : Bool → Outcome
-          outcome v = cond (not v) (refused 17) (accepted (opened (nowOf r) (usedLimit r) (promisedLimit r)) (item 3 0 ∷ []))
-
-          go : (v : Bool) → allTrue (leb (usedLimit r) mostError ∷ leb (promisedLimit r) mostError ∷ []) ≡ v →
-              tellOf b r ≡ opening b d (outcome v) → Case b r
-          go true v e =
-              let p = passed (leb (usedLimit r) mostError ∷ leb (promisedLimit r) mostError ∷ []) v in
-              isOpened w known o (leb-true (usedLimit r) mostError (p .0)) (leb-true (promisedLimit r) mostError (p .1 .0)) e
-          go false v e = isRefused (refusalOf 17) e
-
-      serve-case : eqb (kindOf r) 1 ≡ false → openAt b d ≡ true → Case b r
-      unfolding serveOf
-      serve-case k o = go (soundPart (partOf b d)) refl (told-disk ∙ rw (k, o))
-        where
-          served : (z : Outcome) → answered diskTable (held (partOf b d)) (callOf r) ≡ z → soundPart (partOf b d) ≡ true →
-              tellOf b r ≡ onPart b d (settled (partOf b d) z) → Case b r
-          served (refused n) q s e = isRefused (refusalOf n) (e ∙ part-refused (refusalOf n))
-          served (accepted f items) q s e = isServed w known o s f items q e
-
-          go : (v : Bool) → soundPart (partOf b d) ≡ v →
-              tellOf b r
-              ≡ onPart b d
-              (cond v (settled (partOf b d) (answered diskTable (held (partOf b d)) (callOf r))) (refusing (partOf b d) R.Unsound)) →
-              Case b r
-          go true s e = served (answered diskTable (held (partOf b d)) (callOf r)) refl s e
-          go false s e = isRefused R.Unsound (e ∙ part-refused R.Unsound)
-
-      disk-case : Case b r
-      disk-case = go (eqb (kindOf r) 1) refl (openAt b d) refl
-        where
-          go : (v : Bool) → eqb (kindOf r) 1 ≡ v → (o : Bool) → openAt b d ≡ o → Case b r
-          go true v true o = isRefused R.Open (told-disk ∙ rw (v, o))
-          go true v false o = open-case v o
-          go false v true o = serve-case v o
-          go false v false o = isRefused R.Closed (told-disk ∙ rw (v, o))
+  serve-case : wellFormed r ≡ true → d < disks → openAt b d ≡ true →
+      tellOf b r ≡ onPart b d (serveOf (partOf b d) (callOf r)) → Case b r
+  serve-case w known o =
+      by-serve (λ t. tellOf b r ≡ onPart b d t → Case b r) (partOf b d) (callOf r)
+      (λ e. isRefused R.Unsound (e ∙ part-refused known R.Unsound))
+      (λ s. served s (answered diskTable (held (partOf b d)) (callOf r)) refl)
+    where
+      served : soundPart (partOf b d) ≡ true → (z : Outcome) → answered diskTable (held (partOf b d)) (callOf r) ≡ z →
+          tellOf b r ≡ onPart b d (settled (partOf b d) z) → Case b r
+      served s (refused n) q e = isRefused (refusalOf n) (e ∙ part-refused known (refusalOf n))
+      served s (accepted f items) q e = isServed w known o s f items q e
 
   pub told-case : Case b r
-  unfolding tellOf onBoard
-  told-case = go (wellFormed r) refl (leb disks d) refl
-    where
-      go : (v : Bool) → wellFormed r ≡ v → (u : Bool) → leb disks d ≡ u → Case b r
-      go false w u h = isRefused R.Record (rw w)
-      go true w true h = isRefused R.Disk (rw (w, h))
-      go true w false h = disk-case w h
+  told-case = by-tell (λ t. tellOf b r ≡ t → Case b r) b r isRefused open-case serve-case refl
 
 -- ---- a well-formed record holds a readable call
 
 pub call-readable : (r : List ℕ) → Bytes r → wellFormed r ≡ true → ReadableCall (callOf r)
 unfolding askedOf
-call-readable r bs w = go (eqb (kindOf r) 2)
-  where
-    go : (v : Bool) → ReadableCall (cond v (claims (askedOf r)) (releases (nowOf r) (wordAt r 12)))
-    go true = record { priority = omega (arith, bs 5); flag = says-formed r .0 w .flag }
-    go false = tt
+call-readable r bs w =
+    by-call ReadableCall r (record { priority = omega (arith, bs 5); flag = says-formed r .0 w .flag }) tt
 
 -- ---- an accepted call sets the clock to now
 
@@ -144,11 +103,7 @@ clock-set d (releases now n) =
 
 pub call-now : (r : List ℕ) → nowIn (callOf r) ≡ nowOf r
 unfolding askedOf
-call-now r = go (eqb (kindOf r) 2)
-  where
-    go : (v : Bool) → nowIn (cond v (claims (askedOf r)) (releases (nowOf r) (wordAt r 12))) ≡ nowOf r
-    go true = refl
-    go false = refl
+call-now r = by-call (λ k. nowIn k ≡ nowOf r) r refl refl
 
 pub now-fits : (r : List ℕ) → Bytes r → nowOf r < 2 ^ 32
 now-fits r bs = word-at-fits r 8 bs
@@ -159,6 +114,11 @@ now-fits r bs = word-at-fits r 8 bs
 pub opened-sound : (r : List ℕ) → usedLimit r ≤ 2_000_000_000 → promisedLimit r ≤ 2_000_000_000 →
     Sound diskTable (opened (nowOf r) (usedLimit r) (promisedLimit r))
 opened-sound r f0 f1 = sound-opened diskTable (nowOf r) (usedLimit r) (promisedLimit r) f0 f1
+
+pub opened-held : (r : List ℕ) → Bytes r → usedLimit r ≤ 2_000_000_000 → promisedLimit r ≤ 2_000_000_000 →
+    held (partFor (opened (nowOf r) (usedLimit r) (promisedLimit r))) ≡ opened (nowOf r) (usedLimit r) (promisedLimit r)
+unfolding opened
+opened-held r bs f0 f1 = held-part (opened (nowOf r) (usedLimit r) (promisedLimit r)) (opened-sound r f0 f1) (now-fits r bs)
 
 pub opened-now : (r : List ℕ) → opened (nowOf r) (usedLimit r) (promisedLimit r) .core .clock ≡ nowOf r
 unfolding opened
@@ -174,6 +134,9 @@ module _ (p r : List ℕ) (bs : Bytes r) (w : wellFormed r ≡ true) (s : soundP
 
   pub served-now : f .core .clock ≡ nowOf r
   served-now = subst (After (λ g xs. g .core .clock ≡ nowIn (callOf r))) q (clock-set (held p) (callOf r)) ∙ call-now r
+
+  pub served-held : held (partFor f) ≡ f
+  served-held = held-part f served-sound (omega (arith, served-now, now-fits r bs))
 
   pub served-size : length (partFor f) ≡ 768
   served-size = length-part-for f (served-sound .fewActive) (served-sound .fewWaiting)

@@ -1,6 +1,5 @@
 -- The number of open disks: what its answer says, and exactly when.
 use Prim.Native.Nat.{ℕ}
-use mathlib.Core.Bool.{Bool, true, false, cond}
 use mathlib.Core.List.{List}
 use mathlib.Core.Logic.{_↔_}
 use mathlib.Core.Path.{_≡_, refl}
@@ -12,6 +11,7 @@ use Rattle.num.specs.Count.{countTo}
 use Rattle.num.specs.Opened.{openAt, openCount}
 use Rattle.answer.specs.declared.Refusal.the-variants as R
 use Rattle.answer.specs.Answers.{numberOf}
+use Rattle.law.specs.Says.{by-test}
 use Rattle.desk.specs.declared.board.Count.{Count}
 use Rattle.desk.specs.declared.board.Count.the-variants as C
 use Rattle.desk.specs.Board.{boardBytes}
@@ -29,12 +29,10 @@ disksIn C.Length = 0
 -- 9 exactly of a board of another length.
 pub count-refused-exactly : (b : List ℕ) → (numberIn (countOf b) ≡ 9) ↔ (length b ≡ 49_216 → ⊥)
 unfolding countOf
-count-refused-exactly b = go (eqb (length b) boardBytes) refl
-  where
-    go : (v : Bool) → eqb (length b) boardBytes ≡ v →
-        (numberIn (cond v (C.Disks (openCount b)) C.Length) ≡ 9) ↔ (length b ≡ 49_216 → ⊥)
-    go true v = (λ e. absurd (omega arith), λ h. absurd (h (eqb-true (length b) boardBytes v)))
-    go false v = (λ e. eqb-false (length b) boardBytes v, λ h. refl)
+count-refused-exactly b =
+    by-test (λ c. (numberIn c ≡ 9) ↔ (length b ≡ 49_216 → ⊥)) (eqb (length b) boardBytes)
+    (λ v. (λ e. absurd (omega arith), λ h. absurd (h (eqb-true (length b) boardBytes v))))
+    (λ v. (λ e. eqb-false (length b) boardBytes v, λ h. refl))
 
 -- Of a board, how many of its 64 bits are set.
 pub count-is : (b : List ℕ) → length b ≡ 49_216 → countOf b ≡ C.Disks (countTo (openAt b) 64)

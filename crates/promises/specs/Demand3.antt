@@ -2,7 +2,7 @@
 use Prim.Native.Nat.{ℕ, _+_, _≤_, _<_}
 use mathlib.Core.Bool.{true, false, true≢false}
 use mathlib.Core.List.{List, [], _∷_}
-use mathlib.Core.Path.{_≡_, refl, sym, ap, subst, _∙_}
+use mathlib.Core.Path.{_≡_, refl, sym, ap, _∙_}
 use borrow.Author.Tests.{eq-eqb, lt-leb}
 use lib.Dec.{eqb}
 use lib.IntN.{pos}
@@ -29,11 +29,10 @@ use Rattle.desk.specs.Record.{byteAt, kindOf as kindByte, diskOf, askedOf, call
 use Rattle.desk.specs.Board.{disks, boardBytes, partOf, withPart}
 use Rattle.part.specs.Held.{held, partFor, soundPart}
 use Rattle.desk.specs.Step.{answerOf, ownOf, grantsOf, tells, telling, serveOf, onBoard, tellOf, Stepped, written, stepOf}
-use Rattle.part.specs.PartLaws.{held-part, part-sound}
 use Rattle.promises.specs.Sentences.{WellFormed}
 use Rattle.promises.specs.RefusalLaws.{says-formed}
 use Rattle.promises.specs.Histories.{Call, BytesIn, stepBy, saidBy, begun, lived}
-use Rattle.promises.specs.LifeLaws.{lifeOf, life-sound, Stands, shut, lives, empty-shut, whole-begun, whole-lived}
+use Rattle.promises.specs.LifeLaws.{empty-shut, whole-begun, whole-lived, by-life, open-sound}
 use Rattle.promises.specs.Asks.{claimed, took, AsAsked, Stated, WasGranted}
 use Rattle.promises.specs.SomeLaws.{some-say}
 use Rattle.promises.specs.AskedLaws.{lived-asked}
@@ -56,25 +55,14 @@ Relies p i =
 -- For any calls from the empty board, refused ones and calls on other disks among them, and any disk d: it holds for all that was said on d.
 pub told-bound : (ks : List Call) → All BytesIn ks → (d : ℕ) → d < disks →
     All (Relies (partOf (lived begun ks .board) d)) (lived begun ks .past d)
-told-bound ks bs d h = go (whole-lived begun ks bs whole-begun .each d h)
-  where
-    go : Stands (lived begun ks .board) (lived begun ks .past d) d →
-        All (Relies (partOf (lived begun ks .board) d)) (lived begun ks .past d)
-    go (shut o e) = subst (All (Relies (partOf (lived begun ks .board) d))) (sym e) tt
-    go (lives o l p e) =
-        let disk : held (partOf (lived begun ks .board) d) ≡ lifeOf l .disk =
-        ap held p ∙ held-part (lifeOf l .disk) (life-sound l) (l .clock) in
-        subst (All (Relies (partOf (lived begun ks .board) d))) (sym e)
-        (subst (λ (x : LawDisk). All (Bounded diskTable (x .core)) (lifeOf l .past)) (sym disk)
-        (reader-bound diskTable (l .now) (l .limit0) (l .limit1) (l .calls)))
+told-bound ks bs d h =
+    by-life ks bs d h (λ e past. All (Bounded diskTable (e .core)) past) (λ o e. tt)
+    (λ l. reader-bound diskTable (l .now) (l .limit0) (l .limit1) (l .calls))
 
 -- Disk and ticket name a reading for all time: no ticket of a disk is granted twice.
 pub granted-once : (ks : List Call) → All BytesIn ks → (d : ℕ) → d < disks → Pairs Once (lived begun ks .past d)
-granted-once ks bs d h = go (whole-lived begun ks bs whole-begun .each d h)
-  where
-    go : Stands (lived begun ks .board) (lived begun ks .past d) d → Pairs Once (lived begun ks .past d)
-    go (shut o e) = subst (Pairs Once) (sym e) tt
-    go (lives o l p e) = subst (Pairs Once) (sym e) (law-granted-once diskTable (l .now) (l .limit0) (l .limit1) (l .calls))
+granted-once ks bs d h =
+    by-life ks bs d h (λ e past. Pairs Once past) (λ o e. tt) (λ l. law-granted-once diskTable (l .now) (l .limit0) (l .limit1) (l .calls))
 
 -- All claims take different tickets: of any two calls whose own answer, on that disk, grants a claim or lets it wait, the later one took
 -- the higher ticket.
@@ -84,17 +72,9 @@ tickets-once ks bs d h = lived-rises begun ks bs whole-begun d h .apart
 -- And every reading that is active was granted by an item that was said, with the told sum that stands on the board: none is left out.
 pub readings-told : (ks : List Call) → All BytesIn ks → (d : ℕ) → d < disks → openAt (lived begun ks .board) d ≡ true →
     All (WasGranted (lived begun ks .past d)) (held (partOf (lived begun ks .board) d) .core .active)
-readings-told ks bs d h o = go (whole-lived begun ks bs whole-begun .each d h)
-  where
-    go : Stands (lived begun ks .board) (lived begun ks .past d) d →
-        All (WasGranted (lived begun ks .past d)) (held (partOf (lived begun ks .board) d) .core .active)
-    go (shut x e) = absurd (true≢false (sym o ∙ x))
-    go (lives x l p e) =
-        let disk : held (partOf (lived begun ks .board) d) ≡ lifeOf l .disk =
-        ap held p ∙ held-part (lifeOf l .disk) (life-sound l) (l .clock) in
-        subst (λ (past : List Item). All (WasGranted past) (held (partOf (lived begun ks .board) d) .core .active)) (sym e)
-        (subst (λ (y : LawDisk). All (WasGranted (lifeOf l .past)) (y .core .active)) (sym disk)
-        (lived-granted (l .now) (l .limit0) (l .limit1) (l .calls)))
+readings-told ks bs d h on =
+    by-life ks bs d h (λ e past. All (WasGranted past) (e .core .active)) (λ off e. absurd (true≢false (sym on ∙ off)))
+    (λ l. lived-granted (l .now) (l .limit0) (l .limit1) (l .calls))
 
 -- ---- the limit that it stated
 
@@ -175,11 +155,7 @@ module _ (ks : List Call) (bs : All BytesIn ks) (k : Call) (room : length (k .bu
       (ap (λ (s : Stepped). s .code) step, ap (λ (s : Stepped). s .answer) step)
     where
       sound : soundPart (partOf b (diskOf r)) ≡ true
-      sound = go (whole-lived begun ks bs whole-begun .each (diskOf r) (q .disk))
-        where
-          go : Stands b (lived begun ks .past (diskOf r)) (diskOf r) → soundPart (partOf b (diskOf r)) ≡ true
-          go (shut x e) = absurd (true≢false (sym o ∙ x))
-          go (lives x l p e) = ap soundPart p ∙ part-sound (lifeOf l .disk) (life-sound l) (l .clock)
+      sound = open-sound ks bs (diskOf r) (q .disk) o
 
       outcome : answered diskTable d (callOf r) ≡ accepted (withGrant diskTable d (askedOf r)) (readingItem d m ∷ [])
       outcome = rw (eq-eqb (kindByte r) 2 (q .claims)) (law-granted-at-once diskTable d (askedOf r) m (asks r m (q)) c)

@@ -1,56 +1,33 @@
 -- What every call keeps, whatever board is lent: no accepted call leaves an unsound part or another clock than its now, and nothing
 -- but the call's own disk moves or is read.
 use Prim.Native.Nat.{ℕ, _^_, _≤_, _<_}
-use mathlib.Core.Bool.{Bool, true, false, cond, _&&_, true≢false}
+use mathlib.Core.Bool.{Bool, true, false, cond, _&&_}
 use mathlib.Core.List.{List}
 use mathlib.Core.Logic.{_≢_}
 use mathlib.Core.Path.{_≡_, refl, sym, ap, subst, _∙_}
 use native.Mathlib.Omega.{arith}
-use borrow.Author.Tests.{eqb-true, leb-false}
+use borrow.Author.Tests.{leb-false}
 use lib.Dec.{leb, eqb}
 use lib.ListN.{length, getD}
 use Rattle.num.specs.Word.{Bytes}
 use Rattle.num.specs.Opened.{openAt, setOpen}
-use Rattle.num.specs.OpenedLaws.{length-set-open, byte-set-open, open-set-other, open-same}
-use Rattle.law.specs.Lists.{All, and-left}
+use Rattle.num.specs.OpenedLaws.{length-set-open, bytes-set-open, byte-set-open, open-set-other, open-same}
 use Rattle.law.specs.Types.{Disk as LawDisk, Outcome, refused, accepted}
 use Rattle.law.specs.Calls.{opened, openDisk}
 use Rattle.law.specs.Sound.{Sound}
 use Rattle.law.specs.DiskType.{diskTable}
 use Rattle.answer.specs.declared.Refusal.the-variants as R
-use Rattle.answer.specs.Answers.{numberOf, codeOf, answerBytes, answerSize}
+use Rattle.answer.specs.Answers.{codeOf, answerBytes, answerSize}
 use Rattle.answer.specs.AnswerLaws.{number-range}
 use Rattle.desk.specs.Record.{kindOf, wellFormed, diskOf, nowOf, callOf, usedLimit, promisedLimit}
 use Rattle.desk.specs.Board.{disks, boardBytes, partOf, withPart}
-use Rattle.desk.specs.BoardLaws.{length-with, part-same, part-other, part-open, open-with, byte-before}
-use Rattle.part.specs.Held.{held, partFor, soundPart}
-use Rattle.desk.specs.Step.{Said, ownOf, grantsOf, Told, telling, refusing, serveOf, onPart, opening, onDisk, onBoard, tellOf, written, Stepped, stepped, stepOf}
-use Rattle.part.specs.PartLaws.{held-part, part-sound, sound-held, sound-decodes}
+use Rattle.desk.specs.BoardLaws.{length-with, bytes-with, part-same, part-other, part-open, open-with, byte-before}
+use Rattle.part.specs.Held.{held, partFor}
+use Rattle.desk.specs.Step.{Said, ownOf, grantsOf, Told, telling, refusing, serveOf, onPart, opening, onDisk, onBoard, tellOf, written, stepped, stepOf}
+use Rattle.part.specs.PartLaws.{held-part, part-sound, bytes-part-for}
 use Rattle.promises.specs.Sentences.{SoundPart}
-use Rattle.promises.specs.Histories.{Call, BytesIn, begun, lived}
+use Rattle.promises.specs.RefusalLaws.{says-sound-part, by-lengths}
 use Rattle.promises.specs.CaseLaws.{Case, isRefused, isOpened, isServed, told-case, now-fits, opened-sound, opened-now, opened-size, served-sound, served-now, served-size}
-use Rattle.promises.specs.LifeLaws.{lifeOf, life-sound, Stands, shut, lives, whole-begun, whole-lived}
-
--- ---- what a call of the right lengths comes to
-
--- A call with another length leaves the board; one with both lengths is told.
-data Lengths (b r a : List ℕ) : Type 0 where
-  wrong : stepOf b r a ≡ stepped 9 b a → Lengths b r a
-  right : length b ≡ boardBytes → stepOf b r a ≡ written (tellOf b r) → Lengths b r a
-
-lengths : (b r a : List ℕ) → Lengths b r a
-unfolding stepOf
-lengths b r a = go (eqb (length b) boardBytes && eqb (length a) answerSize) refl
-  where
-    go : (v : Bool) → (eqb (length b) boardBytes && eqb (length a) answerSize) ≡ v → Lengths b r a
-    go true v = right (eqb-true (length b) boardBytes (and-left (eqb (length b) boardBytes) (eqb (length a) answerSize) v)) (rw v)
-    go false v = wrong (rw v)
-
--- The part of a sound disk.
-part-for-sound : (f : LawDisk) → Sound diskTable f → f .core .clock < 2 ^ 32 → SoundPart (partFor f)
-part-for-sound f s t =
-    let h : soundPart (partFor f) ≡ true = part-sound f s t in
-    record { whole = sound-decodes (partFor f) h; holds = sound-held (partFor f) h }
 
 -- ---- no accepted call leaves an unsound part
 
@@ -63,35 +40,31 @@ module _ (b r a : List ℕ) (bs : Bytes r) where
     is : p ≡ partFor disk
 
   left : stepOf b r a .code ≤ 3 → Left (partOf (stepOf b r a .bytes) (diskOf r))
-  left h = go (lengths b r a)
+  left =
+      by-lengths b r a (λ s. s .code ≤ 3 → Left (partOf (s .bytes) (diskOf r))) (λ n m. told n (told-case b r n))
+      (λ h. absurd (omega arith))
     where
-      told : length b ≡ boardBytes → stepOf b r a ≡ written (tellOf b r) → Case b r → Left (partOf (stepOf b r a .bytes) (diskOf r))
-      told n e (isRefused x t) =
-          let z : stepOf b r a .code ≡ numberOf x = ap (λ (y : Stepped). y .code) (e ∙ ap written t) in
-          absurd (omega (arith, h, z, number-range x .0))
-      told n e (isOpened w known o f0 f1 t) =
+      told : length b ≡ boardBytes → Case b r → written (tellOf b r) .code ≤ 3 → Left (partOf (tellOf b r .bytes) (diskOf r))
+      told n (isRefused x t) h = absurd (omega (arith, h, ap (λ (y : Told). written y .code) t, number-range x .0))
+      told n (isOpened w known o f0 f1 t) h =
           record {
             disk = opened (nowOf r) (usedLimit r) (promisedLimit r);
             sound = opened-sound r f0 f1;
             clock = opened-now r;
             is =
-                ap (λ (y : Stepped). partOf (y .bytes) (diskOf r)) (e ∙ ap written t)
+                ap (λ (y : Told). partOf (y .bytes) (diskOf r)) t
                 ∙ part-open (withPart b (diskOf r) (partFor (opened (nowOf r) (usedLimit r) (promisedLimit r)))) (diskOf r) (diskOf r) known
                 ∙ part-same b (diskOf r) n known (partFor (opened (nowOf r) (usedLimit r) (promisedLimit r))) (opened-size r);
           }
-      told n e (isServed w known o s f items q t) =
+      told n (isServed w known o s f items q t) h =
           record {
             disk = f;
             sound = served-sound (partOf b (diskOf r)) r bs w s f items q;
             clock = served-now (partOf b (diskOf r)) r bs w s f items q;
             is =
-                ap (λ (y : Stepped). partOf (y .bytes) (diskOf r)) (e ∙ ap written t)
+                ap (λ (y : Told). partOf (y .bytes) (diskOf r)) t
                 ∙ part-same b (diskOf r) n known (partFor f) (served-size (partOf b (diskOf r)) r bs w s f items q);
           }
-
-      go : Lengths b r a → Left (partOf (stepOf b r a .bytes) (diskOf r))
-      go (wrong e) = absurd (omega (arith, h, ap (λ (y : Stepped). y .code) e))
-      go (right n e) = told n e (told-case b r n)
 
   left-fits : {p : List ℕ} (l : Left p) → l .disk .core .clock < 2 ^ 32
   left-fits l = omega (arith, l .clock, now-fits r bs)
@@ -99,7 +72,7 @@ module _ (b r a : List ℕ) (bs : Bytes r) where
   -- Whatever board was lent.
   pub no-unsound : stepOf b r a .code ≤ 3 → SoundPart (partOf (stepOf b r a .bytes) (diskOf r))
   no-unsound h =
-      let l = left h in subst SoundPart (sym (l .is)) (part-for-sound (l .disk) (l .sound) (left-fits l))
+      let l = left h in subst SoundPart (sym (l .is)) (says-sound-part (partFor (l .disk)) .0 (part-sound (l .disk) (l .sound) (left-fits l)))
 
   -- Accepted calls set the clock to now.
   pub clock-now : stepOf b r a .code ≤ 3 → held (partOf (stepOf b r a .bytes) (diskOf r)) .core .clock ≡ nowOf r
@@ -111,73 +84,61 @@ module _ (b r a : List ℕ) (bs : Bytes r) where
 
   -- ---- nothing but the call's own disk moves
 
-  -- The board stays; or the part of the call's disk is another; or that, and its bit is set.
-  data Change (c : List ℕ) : Type 0 where
-    none : c ≡ b → Change c
-    part : length b ≡ boardBytes → diskOf r < disks → (p : List ℕ) → length p ≡ 768 → c ≡ withPart b (diskOf r) p → Change c
-    opens : length b ≡ boardBytes → diskOf r < disks → (p : List ℕ) → length p ≡ 768 → c ≡ setOpen (withPart b (diskOf r) p) (diskOf r) → Change c
-
-  change : Change (stepOf b r a .bytes)
-  change = go (lengths b r a)
+  -- The board stays; or the part of the call's disk is another; or that, and its bit is set. What holds of each holds of the board.
+  by-change : (P : List ℕ → Type 0) → P b →
+      (length b ≡ boardBytes → diskOf r < disks → (p : List ℕ) → length p ≡ 768 → Bytes p → P (withPart b (diskOf r) p)) →
+      (length b ≡ boardBytes → diskOf r < disks → (p : List ℕ) → length p ≡ 768 → P (withPart b (diskOf r) p) →
+      P (setOpen (withPart b (diskOf r) p) (diskOf r))) →
+      P (stepOf b r a .bytes)
+  by-change P none part opens = by-lengths b r a (λ s. P (s .bytes)) (λ n m. told n (told-case b r n)) none
     where
-      told : length b ≡ boardBytes → stepOf b r a ≡ written (tellOf b r) → Case b r → Change (stepOf b r a .bytes)
-      told n e (isRefused x t) = none (ap (λ (y : Stepped). y .bytes) (e ∙ ap written t))
-      told n e (isOpened w known o f0 f1 t) =
-          opens n known (partFor (opened (nowOf r) (usedLimit r) (promisedLimit r))) (opened-size r)
-          (ap (λ (y : Stepped). y .bytes) (e ∙ ap written t))
-      told n e (isServed w known o s f items q t) =
-          part n known (partFor f) (served-size (partOf b (diskOf r)) r bs w s f items q) (ap (λ (y : Stepped). y .bytes) (e ∙ ap written t))
+      first : LawDisk
+      first = opened (nowOf r) (usedLimit r) (promisedLimit r)
 
-      go : Lengths b r a → Change (stepOf b r a .bytes)
-      go (wrong e) = none (ap (λ (y : Stepped). y .bytes) e)
-      go (right n e) = told n e (told-case b r n)
+      told : length b ≡ boardBytes → Case b r → P (tellOf b r .bytes)
+      told n (isRefused x t) = subst (λ (y : Told). P (y .bytes)) (sym t) none
+      told n (isOpened w known o f0 f1 t) =
+          subst (λ (y : Told). P (y .bytes)) (sym t)
+          (opens n known (partFor first) (opened-size r) (part n known (partFor first) (opened-size r) (bytes-part-for first)))
+      told n (isServed w known o s f items q t) =
+          subst (λ (y : Told). P (y .bytes)) (sym t)
+          (part n known (partFor f) (served-size (partOf b (diskOf r)) r bs w s f items q) (bytes-part-for f))
 
   -- The other disks' parts.
   pub other-parts : (e : ℕ) → e < disks → e ≢ diskOf r → partOf (stepOf b r a .bytes) e ≡ partOf b e
-  other-parts e l n = go (stepOf b r a .bytes) change
-    where
-      go : (c : List ℕ) → Change c → partOf c e ≡ partOf b e
-      go c (none q) = ap (λ (x : List ℕ). partOf x e) q
-      go c (part size known p full q) = ap (λ (x : List ℕ). partOf x e) q ∙ part-other b (diskOf r) size known p full e l n
-      go c (opens size known p full q) =
-          ap (λ (x : List ℕ). partOf x e) q
-          ∙ part-open (withPart b (diskOf r) p) (diskOf r) e known
-          ∙ part-other b (diskOf r) size known p full e l n
+  other-parts e l n =
+      by-change (λ c. partOf c e ≡ partOf b e) refl
+      (λ size known p full bytes. part-other b (diskOf r) size known p full e l n)
+      (λ size known p full same. part-open (withPart b (diskOf r) p) (diskOf r) e known ∙ same)
 
   -- Their open bits.
   pub other-bits : (e : ℕ) → e < disks → e ≢ diskOf r → openAt (stepOf b r a .bytes) e ≡ openAt b e
-  other-bits e l n = go (stepOf b r a .bytes) change
-    where
-      go : (c : List ℕ) → Change c → openAt c e ≡ openAt b e
-      go c (none q) = ap (λ (x : List ℕ). openAt x e) q
-      go c (part size known p full q) = ap (λ (x : List ℕ). openAt x e) q ∙ open-with b (diskOf r) size known p full e l
-      go c (opens size known p full q) =
-          ap (λ (x : List ℕ). openAt x e) q
-          ∙ open-set-other (withPart b (diskOf r) p) (diskOf r) known (omega (arith, length-with b (diskOf r) size known p full)) e n
-          ∙ open-with b (diskOf r) size known p full e l
+  other-bits e l n =
+      by-change (λ c. openAt c e ≡ openAt b e) refl
+      (λ size known p full bytes. open-with b (diskOf r) size known p full e l)
+      (λ size known p full same.
+      open-set-other (withPart b (diskOf r) p) (diskOf r) known (omega (arith, length-with b (diskOf r) size known p full)) e n
+      ∙ same)
 
   -- Bytes 8 to 63 of the head.
   pub head-stays : (k : ℕ) → 8 ≤ k → k < 64 → getD (stepOf b r a .bytes) k 0 ≡ getD b k 0
-  head-stays k l u = go (stepOf b r a .bytes) change
-    where
-      go : (c : List ℕ) → Change c → getD c k 0 ≡ getD b k 0
-      go c (none q) = ap (λ (x : List ℕ). getD x k 0) q
-      go c (part size known p full q) =
-          ap (λ (x : List ℕ). getD x k 0) q ∙ byte-before b (diskOf r) size known p full k (omega arith)
-      go c (opens size known p full q) =
-          ap (λ (x : List ℕ). getD x k 0) q
-          ∙ byte-set-open (withPart b (diskOf r) p) (diskOf r) k (λ e. omega (arith, known))
-          ∙ byte-before b (diskOf r) size known p full k (omega arith)
+  head-stays k l u =
+      by-change (λ c. getD c k 0 ≡ getD b k 0) refl
+      (λ size known p full bytes. byte-before b (diskOf r) size known p full k (omega arith))
+      (λ size known p full same. byte-set-open (withPart b (diskOf r) p) (diskOf r) k (λ e. omega (arith, known)) ∙ same)
 
   -- And the board keeps its length.
   pub size-stays : length (stepOf b r a .bytes) ≡ length b
-  size-stays = go (stepOf b r a .bytes) change
-    where
-      go : (c : List ℕ) → Change c → length c ≡ length b
-      go c (none q) = ap length q
-      go c (part size known p full q) = ap length q ∙ length-with b (diskOf r) size known p full ∙ sym size
-      go c (opens size known p full q) =
-          ap length q ∙ length-set-open (withPart b (diskOf r) p) (diskOf r) ∙ length-with b (diskOf r) size known p full ∙ sym size
+  size-stays =
+      by-change (λ c. length c ≡ length b) refl
+      (λ size known p full bytes. length-with b (diskOf r) size known p full ∙ sym size)
+      (λ size known p full same. length-set-open (withPart b (diskOf r) p) (diskOf r) ∙ same)
+
+  -- Bytes stay bytes.
+  pub bytes-stay : Bytes b → Bytes (stepOf b r a .bytes)
+  bytes-stay h =
+      by-change Bytes h (λ size known p full bytes. bytes-with b (diskOf r) size known p full h bytes)
+      (λ size known p full bytes. bytes-set-open (withPart b (diskOf r) p) (diskOf r) bytes)
 
 -- ---- a call reads nothing of the board but its own disk's bit and part
 
@@ -234,14 +195,3 @@ module _ (b c r a : List ℕ) (same : length b ≡ length c) where
   pub head-unread : ((k : ℕ) → k < 8 → getD b k 0 ≡ getD c k 0) → ((d : ℕ) → d < disks → partOf b d ≡ partOf c d) →
       (stepOf b r a .code ≡ stepOf c r a .code) × (stepOf b r a .answer ≡ stepOf c r a .answer)
   head-unread bits parts = reads-own (λ h. open-same b c bits (diskOf r) h) (λ h. parts (diskOf r) h)
-
--- ---- boards from the empty one
-
--- Every open part is sound.
-pub open-parts-sound : (ks : List Call) → All BytesIn ks → (d : ℕ) → d < disks → openAt (lived begun ks .board) d ≡ true →
-    SoundPart (partOf (lived begun ks .board) d)
-open-parts-sound ks bs d h o = go (whole-lived begun ks bs whole-begun .each d h)
-  where
-    go : Stands (lived begun ks .board) (lived begun ks .past d) d → SoundPart (partOf (lived begun ks .board) d)
-    go (shut x e) = absurd (true≢false (sym o ∙ x))
-    go (lives x l p e) = subst SoundPart (sym p) (part-for-sound (lifeOf l .disk) (life-sound l) (l .clock))

@@ -24,6 +24,7 @@ pub mod Sentences
 pub mod Demand1
 pub mod Demand3
 pub mod Kept
+pub mod Lived
 pub mod Counts
 pub mod Unique
 pub mod Reading
@@ -31,6 +32,7 @@ pub mod SomeLaws
 pub mod RefusalLaws
 pub mod AcceptLaws
 pub mod CaseLaws
+pub mod TurnLaws
 pub mod LifeLaws
 pub mod AskedLaws
 pub mod ToldLaws

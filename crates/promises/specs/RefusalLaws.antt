@@ -6,7 +6,7 @@ use mathlib.Core.List.{List, [], _∷_, _++_}
 use mathlib.Core.Logic.{_↔_, _⊎_, inl, inr, ⊎-elim}
 use mathlib.Core.Path.{_≡_, refl, sym, ap, _∙_}
 use native.Mathlib.Omega.{arith}
-use borrow.Author.Tests.{leb-true, leb-false, eqb-true, eqb-false, eq-eqb}
+use borrow.Author.Tests.{leb-true, eqb-true, eqb-false, eq-eqb}
 use lib.Dec.{leb, eqb}
 use lib.ListN.{length, take, drop, getD, replicate, length-take}
 use lib.Seq.{getD-take, getD-drop}
@@ -19,7 +19,7 @@ use Rattle.law.specs.Lists.{and-left, and-right}
 use Rattle.law.specs.Calls.{Rule, openDisk}
 use Rattle.law.specs.History.{Call, claims, releases, answered}
 use Rattle.law.specs.DiskType.{diskTable}
-use Rattle.law.specs.Says.{Says, fails, says-le, says-eq, says-not, says-and, says-two, says-fails, says-self, none, _⊳_ as _then_, says-row, _and_}
+use Rattle.law.specs.Says.{by-test, Says, fails, says-le, says-eq, says-not, says-and, says-two, says-fails, says-self, none, _⊳_ as _then_, says-row, _and_}
 use Rattle.law.specs.Sentences.{Sentence, FirstHolds, openSentences, sentencesOf}
 use Rattle.law.specs.Refusals.{Matches, done, _⊳_, open-refused-by-rule, refused-exactly}
 use Rattle.part.specs.ByteLaws.{zero-byte}
@@ -33,7 +33,8 @@ use Rattle.desk.specs.Board.{disks, boardBytes, partOf, withPart}
 use Rattle.desk.specs.BoardLaws.{with-same}
 use Rattle.part.specs.PartLaws.{sound-decodes, sound-held, sound-part}
 use Rattle.part.specs.Held.{held, soundPart}
-use Rattle.desk.specs.Step.{answerOf, Said, refuses, tells, ownOf, grantsOf, Told, refusing, settled, serveOf, onPart, opening, onDisk, onBoard, tellOf, Stepped, stepped, written, stepOf}
+use Rattle.desk.specs.Step.{answerOf, Said, refuses, tells, ownOf, grantsOf, Told, refusing, settled, serveOf, onPart, opening, onBoard, tellOf, Stepped, stepped, written, stepOf}
+use Rattle.desk.specs.StepLaws.{by-answer, by-serve, by-tell}
 use Rattle.promises.specs.Sentences.{Unused, KindFits, WellFormed, SoundPart, ruleSentences, sentences}
 
 -- ---- 10: the test of a record says that it is well formed
@@ -167,16 +168,7 @@ first-least b r a n (inr h) = omega (arith, first-number n (behind (sentences b 
 -- ---- codes
 
 item-accepted : (i : Item) → codeOf (answerOf i) ≤ 3
-unfolding answerOf
-item-accepted i = go (eqb (i .code) 0) (eqb (i .code) 1) (eqb (i .code) 2)
-  where
-    go : (u v w : Bool) →
-        codeOf (cond u (A.Granted (i .ticket) (i .told) (i .amount))
-        (cond v (A.Waits (i .ticket)) (cond w (A.Released (i .ticket)) A.Opened))) ≤ 3
-    go true v w = omega arith
-    go false true w = omega arith
-    go false false true = omega arith
-    go false false false = omega arith
+item-accepted i = by-answer (λ a. codeOf a ≤ 3) i (omega arith) (omega arith) (omega arith) (omega arith)
 
 -- The code of an accepted call is at most 3.
 told-accepted : (items : List Item) → codeOf (ownOf (tells items)) ≤ 3
@@ -334,11 +326,8 @@ module _ (b r a : List ℕ) where
 pub by-lengths : (b r a : List ℕ) (P : Stepped → Type 0) →
     (length b ≡ boardBytes → length a ≡ answerSize → P (written (tellOf b r))) → P (stepped 9 b a) → P (stepOf b r a)
 unfolding stepOf
-by-lengths b r a P past nine = go (lengths b r a) (says-lengths b r a .0)
-  where
-    go : (w : Bool) → (w ≡ true → (length b ≡ 49_216) × (length a ≡ 144)) → P (cond w (written (tellOf b r)) (stepped 9 b a))
-    go true h = past (h refl .0) (h refl .1)
-    go false h = nine
+by-lengths b r a P past nine =
+    by-test P (lengths b r a) (λ e. let h = says-lengths b r a .0 e in past (h .0) (h .1)) (λ e. nine)
 
 -- If it is a refusal, the bytes are as they were.
 abbrev Leaves : List ℕ → Told → Type 0
@@ -353,42 +342,14 @@ settled-leaves p (refused n) h = refl
 settled-leaves p (accepted e items) h = absurd (omega (arith, told-accepted items))
 
 serve-leaves : (p : List ℕ) (k : Call) → Leaves p (serveOf p k)
-unfolding serveOf
-serve-leaves p k = go (soundPart p)
-  where
-    go : (w : Bool) → Leaves p (cond w (settled p (answered diskTable (held p) k)) (refusing p R.Unsound))
-    go true h = settled-leaves p (answered diskTable (held p) k) h
-    go false h = refl
+serve-leaves p k = by-serve (Leaves p) p k (λ h. refl) (λ s. settled-leaves p (answered diskTable (held p) k))
 
-module _ (b r : List ℕ) (whole : length b ≡ boardBytes) where
-  disk-leaves : diskOf r < disks → Leaves b (onDisk b r (diskOf r))
-  disk-leaves known = go (eqb (kindOf r) 1) (openAt b (diskOf r))
-    where
-      o : Outcome
-      o = openDisk (nowOf r) (usedLimit r) (promisedLimit r)
-
-      served : Told
-      served = serveOf (partOf b (diskOf r)) (callOf r)
-
-      go : (opens isOpen : Bool) →
-          Leaves b
-          (cond opens (cond isOpen (refusing b R.Open) (opening b (diskOf r) o))
-          (cond isOpen (onPart b (diskOf r) served) (refusing b R.Closed)))
-      go true true h = refl
-      go true false h = opening-leaves b (diskOf r) o h
-      go false true h =
-          ap (withPart b (diskOf r)) (serve-leaves (partOf b (diskOf r)) (callOf r) h) ∙ with-same b (diskOf r) whole known
-      go false false h = refl
-
-  pub tell-leaves : Leaves b (tellOf b r)
-  unfolding tellOf onBoard
-  tell-leaves = go (wellFormed r) (leb disks (diskOf r)) refl
-    where
-      go : (formed far : Bool) → leb disks (diskOf r) ≡ far →
-          Leaves b (cond formed (cond far (refusing b R.Disk) (onDisk b r (diskOf r))) (refusing b R.Record))
-      go false far e h = refl
-      go true true e h = refl
-      go true false e h = disk-leaves (leb-false disks (diskOf r) e) h
+pub tell-leaves : (b r : List ℕ) → length b ≡ boardBytes → Leaves b (tellOf b r)
+tell-leaves b r whole =
+    by-tell (Leaves b) b r (λ x h. refl)
+    (λ w known o. opening-leaves b (diskOf r) (openDisk (nowOf r) (usedLimit r) (promisedLimit r)))
+    (λ w known o h.
+    ap (withPart b (diskOf r)) (serve-leaves (partOf b (diskOf r)) (callOf r) h) ∙ with-same b (diskOf r) whole known)
 
 -- A refusal's number, then zeros.
 pub said-answers : (s : Said) → 9 ≤ codeOf (ownOf s) →

@@ -2,11 +2,9 @@
 use Prim.Native.Nat.{ℕ, _+_, _≤_, _<_}
 use mathlib.Core.Bool.{Bool, true, false, cond}
 use mathlib.Core.List.{List, [], _∷_, _++_}
-use mathlib.Core.Path.{_≡_, refl, sym, ap, subst, _∙_}
+use mathlib.Core.Path.{_≡_, refl, ap, subst, _∙_}
 use native.Mathlib.Omega.{arith}
-use borrow.Author.Tests.{eqb-true, eqb-false, eq-eqb}
 use lib.Dec.{eqb}
-use lib.ListN.{length}
 use Rattle.num.specs.Opened.{openAt}
 use Rattle.law.specs.Lists.{All, Pairs, all-say, all-append, pairs-join}
 use Rattle.law.specs.Types.{Disk as LawDisk}
@@ -14,18 +12,14 @@ use Rattle.law.specs.Granting.{grantItem}
 use Rattle.law.specs.Events.{After, claim-after, release-after}
 use Rattle.law.specs.History.{Call as LawCall, claims, releases, answered}
 use Rattle.law.specs.DiskType.{diskTable}
-use Rattle.answer.specs.Answers.{answerSize}
 use Rattle.desk.specs.Record.{diskOf, callOf}
-use Rattle.desk.specs.Board.{disks, partOf, withPart}
-use Rattle.desk.specs.BoardLaws.{part-same, open-with}
-use Rattle.part.specs.Held.{held, partFor}
-use Rattle.part.specs.PartLaws.{held-part}
-use Rattle.desk.specs.Step.{Said, Told}
-use Rattle.promises.specs.Histories.{Call, BytesIn, stepBy, saidBy, itemsIn, History, after, lived}
+use Rattle.desk.specs.Board.{disks, partOf}
+use Rattle.part.specs.Held.{held}
+use Rattle.promises.specs.Histories.{Call, BytesIn, stepBy, saidBy, itemsIn, itemsOn, History, after, lived}
 use Rattle.promises.specs.Asks.{tookBy, tookOn, took}
-use Rattle.promises.specs.CaseLaws.{Case, isRefused, isOpened, isServed, told-case, now-fits, served-sound, served-now, served-size}
-use Rattle.promises.specs.LifeLaws.{Whole, board-9, said-9, board-told, said-told, whole-after}
-use Rattle.promises.specs.Kept.{other-parts, other-bits}
+use Rattle.promises.specs.CaseLaws.{served-held}
+use Rattle.promises.specs.LifeLaws.{Whole, whole-after}
+use Rattle.promises.specs.TurnLaws.{Turn, stays, opens, serves, turn, own-items}
 
 -- ---- tickets that rise
 
@@ -86,74 +80,25 @@ module _ (h : History) (k : Call) (w : Whole h) (bs : BytesIn k) where
   abbrev c : List ℕ
   c = stepBy (h .board) k .bytes
 
-  -- A disk whose part and bit are as they were, and no ticket taken on it.
-  same-rises : (d : ℕ) → partOf c d ≡ partOf b d → openAt c d ≡ openAt b d → tookOn b k d ≡ [] → Rises (nextOn b d) (tookOn b k d) (nextOn c d)
-  same-rises d p o e =
-      let same : nextOn c d ≡ nextOn b d = rw (p, o) in
-      subst (λ (ts : List ℕ). Rises (nextOn b d) ts (nextOn c d)) (sym e) (rises-none (omega arith))
-
-  own-took : tookOn b k dk ≡ tookBy (itemsIn (saidBy b k))
-  own-took = rw (eq-eqb dk dk refl)
-
-  stays-rises : c ≡ b → itemsIn (saidBy b k) ≡ [] → Rises (nextOn b dk) (tookOn b k dk) (nextOn c dk)
-  stays-rises e i =
-      same-rises dk (ap (λ (x : List ℕ). partOf x dk) e) (ap (λ (x : List ℕ). openAt x dk) e) (own-took ∙ ap tookBy i)
-
-  own-rises : dk < disks → Rises (nextOn b dk) (tookOn b k dk) (nextOn c dk)
-  own-rises l = go (eqb (length (k .buffer)) answerSize) refl
+  -- The tickets taken on a disk are those of the items said on it.
+  took-items : (d : ℕ) → tookOn b k d ≡ tookBy (itemsOn b k d)
+  took-items d = go (eqb d dk)
     where
-      told : eqb (length (k .buffer)) answerSize ≡ true → Case b r → Rises (nextOn b dk) (tookOn b k dk) (nextOn c dk)
-      told e (isRefused x t) =
-          stays-rises (board-told b k (w .size) e ∙ ap (λ (y : Told). y .bytes) t)
-          (ap itemsIn (said-told b k (w .size) e ∙ ap (λ (y : Told). y .said) t))
-      told e (isOpened f known off f0 f1 t) =
-          let none : tookOn b k dk ≡ [] = own-took ∙ ap (λ (y : Said). tookBy (itemsIn y)) (said-told b k (w .size) e ∙ ap (λ (y : Told). y .said) t) in
-          let first : nextOn b dk ≡ 0 = rw off in
-          subst (λ (ts : List ℕ). Rises (nextOn b dk) ts (nextOn c dk)) (sym none) (rises-none (omega arith))
-      told e (isServed f known was s g items a t) =
-          subst (λ (ts : List ℕ). Rises (nextOn b dk) ts (nextOn c dk)) (sym taken)
-          (subst (λ (n : ℕ). Rises n (tookBy items) (nextOn c dk)) (sym before)
-          (subst (λ (n : ℕ). Rises (held (partOf b dk) .next) (tookBy items) n) (sym then)
-          (subst (After (λ x ys. Rises (held (partOf b dk) .next) (tookBy ys) (x .next))) a (call-rises (held (partOf b dk)) (callOf r)))))
-        where
-          full : length (partFor g) ≡ 768
-          full = served-size (partOf b dk) r bs f s g items a
-
-          left : c ≡ withPart b dk (partFor g)
-          left = board-told b k (w .size) e ∙ ap (λ (y : Told). y .bytes) t
-
-          disk : held (partOf c dk) ≡ g
-          disk =
-              ap (λ (x : List ℕ). held (partOf x dk)) left
-              ∙ ap held (part-same b dk (w .size) known (partFor g) full)
-              ∙ held-part g (served-sound (partOf b dk) r bs f s g items a)
-              (omega (arith, served-now (partOf b dk) r bs f s g items a, now-fits r bs))
-
-          still : openAt c dk ≡ true
-          still = ap (λ (x : List ℕ). openAt x dk) left ∙ open-with b dk (w .size) known (partFor g) full dk known ∙ was
-
-          taken : tookOn b k dk ≡ tookBy items
-          taken = own-took ∙ ap (λ (y : Said). tookBy (itemsIn y)) (said-told b k (w .size) e ∙ ap (λ (y : Told). y .said) t)
-
-          before : nextOn b dk ≡ held (partOf b dk) .next
-          before = rw was
-
-          then : nextOn c dk ≡ g .next
-          then = ap (λ (v : Bool). cond v (held (partOf c dk) .next) 0) still ∙ ap (λ (x : LawDisk). x .next) disk
-
-      go : (v : Bool) → eqb (length (k .buffer)) answerSize ≡ v → Rises (nextOn b dk) (tookOn b k dk) (nextOn c dk)
-      go true e = told e (told-case b r (w .size))
-      go false e = stays-rises (board-9 b k (w .size) e) (said-9 b k (w .size) e)
+      go : (v : Bool) → cond v (tookBy (itemsIn (saidBy b k))) [] ≡ tookBy (cond v (itemsIn (saidBy b k)) [])
+      go true = refl
+      go false = refl
 
   step-rises : (d : ℕ) → d < disks → Rises (nextOn b d) (tookOn b k d) (nextOn c d)
-  step-rises d l = go (eqb d dk) refl
+  step-rises d l = rw (took-items d) (go (turn b k (w .size) bs d l))
     where
-      go : (v : Bool) → eqb d dk ≡ v → Rises (nextOn b d) (tookOn b k d) (nextOn c d)
-      go true v =
-          subst (λ (e : ℕ). Rises (nextOn b e) (tookOn b k e) (nextOn c e)) (sym (eqb-true d dk v))
-          (own-rises (subst (λ (e : ℕ). e < disks) (eqb-true d dk v) l))
-      go false v =
-          same-rises d (other-parts b r (k .buffer) bs d l (eqb-false d dk v)) (other-bits b r (k .buffer) bs d l (eqb-false d dk v)) (rw v)
+      go : {d : ℕ} → Turn b k d → Rises (nextOn b d) (tookBy (itemsOn b k d)) (nextOn c d)
+      go (stays o p i) = rw (i, p, o) (rises-none (omega arith))
+      go (opens off f0 f1 on p i) = rw (own-items b k, i, off) (rises-none (omega arith))
+      go (serves f was s g items a on p i) =
+          let next : held (partOf c dk) .next ≡ g .next =
+          ap (λ (x : LawDisk). x .next) (ap held p ∙ served-held (partOf b dk) r bs f s g items a) in
+          rw (own-items b k, i, was, on, next)
+          (subst (After (λ x ys. Rises (held (partOf b dk) .next) (tookBy ys) (x .next))) a (call-rises (held (partOf b dk)) (callOf r)))
 
 -- ---- any calls
 

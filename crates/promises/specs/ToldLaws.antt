@@ -1,6 +1,5 @@
 -- Laws of grants: no claim becomes active but by an item that says so, and what it was told stays with it.
 use Prim.Native.Nat.{ℕ}
-use mathlib.Core.Bool.{Bool, true, false, cond}
 use mathlib.Core.List.{List, [], _∷_, _++_, append-assoc}
 use mathlib.Core.Logic.{inl}
 use mathlib.Core.Path.{_≡_, refl, subst}
@@ -8,7 +7,8 @@ use Rattle.law.specs.declared.Claim.{Claim}
 use Rattle.law.specs.Lists.{All, all-say, all-true, all-grown}
 use Rattle.law.specs.Types.{Core, Item}
 use Rattle.law.specs.Granting.{grant, grantItem, raised, asGranted}
-use Rattle.law.specs.Calls.{item, waitItem, hasTicket, without, opened, asked, at, finish}
+use Rattle.law.specs.Calls.{item, waitItem, without, opened, asked, at, finish}
+use Rattle.law.specs.QueueLaws.{all-without}
 use Rattle.law.specs.Events.{After, claim-after, release-after, pass-keeps, lived-keeps}
 use Rattle.law.specs.History.{Call, claims, releases, History, begun, answered, lived}
 use Rattle.law.specs.DiskType.{diskTable}
@@ -31,16 +31,6 @@ grant-granted past s c h =
     (some-right (λ i. (i .code ≡ 0) × ((i .ticket ≡ c .ticket) × (i .told ≡ asGranted diskTable s c .told))) past (grantItem diskTable s c ∷ [])
     (inl (refl, (refl, refl))))
 
--- An end: all but one.
-without-granted : (past : List Item) (n : ℕ) (ws : List Claim) → All (WasGranted past) ws → All (WasGranted past) (without n ws)
-without-granted past n [] h = tt
-without-granted past n (w ∷ ws) h = go (hasTicket n w) (without-granted past n ws)
-  where
-    go : (v : Bool) → (All (WasGranted past) ws → All (WasGranted past) (without n ws)) →
-        All (WasGranted past) (cond v ws (w ∷ without n ws))
-    go true more = h .1
-    go false more = (h .0, more (h .1))
-
 -- Every call keeps it.
 call-granted : (h : History) (k : Call) → All (WasGranted (h .past)) (h .disk .core .active) →
     After (λ d items. All (WasGranted (h .past ++ items)) (d .core .active)) (answered diskTable (h .disk) k)
@@ -60,7 +50,7 @@ call-granted h (releases now n) g =
     (record { core = finish diskTable (at (h .disk) now) n; ahead = []; items = [] })
     (without n (h .disk .waiting))
     (more-granted (h .past) (item 2 n ∷ []) (without n (h .disk .core .active))
-    (without-granted (h .past) n (h .disk .core .active) g)))
+    (all-without (WasGranted (h .past)) n (h .disk .core .active) g)))
 
 -- So any calls from an opened disk do.
 pub lived-granted : (now l0 l1 : ℕ) (ks : List Call) →

@@ -6,7 +6,7 @@ use mathlib.Core.Path.{_≡_, refl, sym, ap, _∙_}
 use Rattle.law.specs.declared.Claim.{Claim}
 use Rattle.law.specs.Types.{Core, Asked as LawAsked, Disk as LawDisk}
 use Rattle.claims.specs.Rows.{RowIs}
-use Rattle.claims.specs.RowLaws.{row-one}
+use Rattle.rules.specs.DiskLaws.{row-padded}
 use Rattle.rules.specs.declared.disk.Asked.{Asked}
 use Rattle.rules.specs.Answers.{askedOf}
 use Rattle.rules.specs.Disks.{DiskIs}
@@ -89,7 +89,7 @@ slots-unique k p l q = sym k ∙ ap inSlots (unique p q) ∙ l
 
 -- Eight slots through a list of claims and its length.
 pub row-unique : {r s : List ℕ} {n : ℕ} {ws : List Claim} → Kept r → RowIs (slots 8 r) n ws → Kept s → RowIs (slots 8 s) n ws → r ≡ s
-row-unique k p l q = slots-unique k (row-one p q) l refl
+row-unique k p l q = slots-unique k (row-padded (p .row) (p .list) ∙ sym (row-padded (q .row) (q .list))) l refl
 
 -- A part through the disk of the law for which its disk stands.
 pub part-unique : {p q : List ℕ} {d : LawDisk} → Holds p (decode p) → DiskIs (decode p) d → Holds q (decode q) → DiskIs (decode q) d → p ≡ q

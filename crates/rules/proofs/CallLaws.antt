@@ -1,5 +1,5 @@
 -- Laws of the calls: which refusal a request meets, by the tests of its code in their order, and what an accepted one comes to.
-use Prim.Native.Nat.{ℕ, zero, suc, _≤_, _<_}
+use Prim.Native.Nat.{ℕ, _≤_, _<_}
 use mathlib.Core.Bool.{Bool, true, false, cond, not, and-false, and-true}
 use mathlib.Core.List.{List, [], _∷_, _++_}
 use mathlib.Core.Path.{_≡_, refl, sym, ap, _∙_}
@@ -17,6 +17,7 @@ use Rattle.law.specs.Types.{mostValue, mostError, mostState, places, lastTicket
 use Rattle.law.specs.Entries.{kindAt, kindOf}
 use Rattle.law.specs.Granting.{total, grantItem}
 use Rattle.law.specs.Calls.{Rule, unless, fieldTests, ownFits, item, opened, openDisk, asked, at, grantedAtOnce, waitItem, decided, claim}
+use Rattle.law.specs.Says.{by-test}
 use Rattle.law.specs.Events.{NoneHolds}
 use Rattle.law.specs.Sound.{Passes, Sound}
 use Rattle.law.specs.SoundTest.{unrefused}
@@ -25,6 +26,7 @@ use Rattle.law.specs.ProperLaws.{proper-kind, disk-proper}
 use Rattle.law.specs.DiskType.{diskTable}
 use Rattle.claims.specs.RowLaws.{row-none}
 use Rattle.lock.specs.Methods.{isReading, writtenBy}
+use Rattle.lock.proofs.MethodLaws.{method-past, method-cases}
 use Rattle.rules.specs.Disks.{figuresIn, diskOf, Good}
 use Rattle.rules.specs.Answers.{valueBy, shownBy, firstNumber, firstRules, coreAt, TakesGrant, grantedOf, waitingOf, emptyOf}
 use Rattle.rules.specs.declared.disk.Disk.{Disk}
@@ -52,14 +54,10 @@ state-from m z e h = rw e (code-from z h)
 -- Every other value.
 pub value-other : (m : ℕ) (z : ℤ) → (m ≡ 3 → ⊥) → leb (size z) mostValue ≡ valueBy (kindAt diskTable m) z
 unfolding diskTable
-value-other zero z h = refl
-value-other (suc zero) z h = refl
-value-other (suc (suc zero)) z h = refl
-value-other (suc (suc (suc zero))) z h = absurd (h refl)
-value-other (suc (suc (suc (suc zero)))) z h = refl
-value-other (suc (suc (suc (suc (suc zero))))) z h = refl
-value-other (suc (suc (suc (suc (suc (suc zero)))))) z h = refl
-value-other (suc (suc (suc (suc (suc (suc (suc m))))))) z h = refl
+value-other m z =
+    method-cases (λ n. (n ≡ 3 → ⊥) → leb (size z) mostValue ≡ valueBy (kindAt diskTable n) z)
+    (λ h. refl) (λ h. refl) (λ h. refl) (λ h. absurd (h refl)) (λ h. refl) (λ h. refl) (λ h. refl)
+    (λ n l h. rw (method-past n l)) m
 
 module _ (now : ℕ) (c : Claim) where
   pub error-over : (k : Kind) → mostError < c .error → false ≡ allTrue (fieldTests now k c)
@@ -166,11 +164,8 @@ first-some (r ∷ rs) ss good h = go (r .when) h (first-some rs ss good)
 -- Where the first is none, none holds, and those behind them decide.
 none-hold : (rs : List Rule) → All (λ r. 0 < r .number) rs → firstNumber rs ≡ 0 → NoneHolds rs
 none-hold [] p e = tt
-none-hold (r ∷ rs) p e = go (r .when) refl e (none-hold rs (p .1))
-  where
-    go : (b : Bool) → r .when ≡ b → cond b (r .number) (firstNumber rs) ≡ 0 → (firstNumber rs ≡ 0 → NoneHolds rs) → NoneHolds (r ∷ rs)
-    go true w e k = absurd (omega (arith, p .0))
-    go false w e k = (w, k e)
+none-hold (r ∷ rs) p e =
+    by-test (λ n. n ≡ 0 → NoneHolds (r ∷ rs)) (r .when) (λ w e. absurd (omega (arith, p .0))) (λ w e. (w, none-hold rs (p .1) e)) e
 
 unless-rest : (rs ss : List Rule) (good : Outcome) → NoneHolds rs → unless (rs ++ ss) good ≡ unless ss good
 unless-rest [] ss good none = refl

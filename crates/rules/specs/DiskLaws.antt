@@ -5,10 +5,11 @@ use mathlib.Core.List.{List}
 use mathlib.Core.Path.{_≡_, refl, sym, ap, _∙_}
 use native.Mathlib.Omega.{arith}
 use lib.Dec.{ltb}
-use lib.ListN.{length, take, getD, replicate, length-append, length-replicate, getD-replicate, List·getD-append, List·getD-eq-default}
+use lib.ListN.{length, take, getD, replicate, length-append, length-replicate, List·getD-append}
 use lib.Seq.{getD-take, getD-append-add, ext-getD}
 use borrow.Author.Tests.{ltb-true, ltb-false}
 use Rattle.law.specs.declared.Claim.{Claim}
+use Rattle.law.specs.Lists.{getD-filled}
 use Rattle.law.specs.Types.{Outcome, refused, accepted, Disk as LawDisk}
 use Rattle.claims.specs.Rows.{Row, noClaim}
 use Rattle.claims.specs.RowLaws.{row-length}
@@ -18,7 +19,7 @@ use Rattle.rules.specs.Disks.{DiskIs, padded, byValue}
 use Rattle.rules.specs.Answers.{Answers}
 
 -- An array is its claims, and clear places behind them.
-row-padded : {a : List Claim} {n : ℕ} {l : List Claim} → Row a n → take n a ≡ l → a ≡ padded l
+pub row-padded : {a : List Claim} {n : ℕ} {l : List Claim} → Row a n → take n a ≡ l → a ≡ padded l
 row-padded {a} {n} {l} r e =
     ext-getD noClaim a (padded l)
     (omega (arith, r .room, r .few, k, length-append l (replicate (8 - length l) noClaim), length-replicate (8 - length l) noClaim))
@@ -37,15 +38,9 @@ row-padded {a} {n} {l} r e =
         let h : n ≤ i = ltb-false i n w in
         let j : i ≡ length l + (i - length l) = omega (arith, k) in
         r .clear i h
-        ∙ sym (rest (i - length l) (ltb (i - length l) (8 - length l)) refl)
+        ∙ sym (getD-filled (8 - length l) (i - length l) noClaim)
         ∙ sym (getD-append-add l (replicate (8 - length l) noClaim) (i - length l) noClaim)
         ∙ ap (λ (m : ℕ). getD (padded l) m noClaim) (sym j)
-      where
-        rest : (m : ℕ) (b : Bool) → ltb m (8 - length l) ≡ b → getD (replicate (8 - length l) noClaim) m noClaim ≡ noClaim
-        rest m true w = getD-replicate (8 - length l) m noClaim noClaim (ltb-true m (8 - length l) w)
-        rest m false w =
-            List·getD-eq-default (replicate (8 - length l) noClaim) noClaim {n = m}
-            (omega (arith, ltb-false m (8 - length l) w, length-replicate (8 - length l) noClaim))
 
 -- The disk of these parts.
 abbrev partsOf : LawDisk → ℕ → ℕ → List Claim → List Claim → Disk

@@ -1,15 +1,15 @@
 -- Laws of lines: texts put one behind the other, how long a line can be, and that the lines are those of the answer and its grants.
 use Prim.Native.Nat.{ℕ, zero, suc, _+_, _-_, _*_, _^_, _≤_, _<_}
-use mathlib.Core.Bool.{Bool, true, false, cond}
+use mathlib.Core.Bool.{true, false}
 use mathlib.Core.List.{List, [], _∷_, _++_, append-assoc}
 use mathlib.Core.Logic.{⊎-elim}
 use mathlib.Core.Path.{_≡_, refl, sym, ap, _∙_}
 use native.Mathlib.Nat.{eq-zero-or-pos}
 use native.Mathlib.Omega.{arith}
-use borrow.Author.Tests.{lt-ltb, le-ltb, ltb-true, ltb-false, ne-eqb}
+use borrow.Author.Tests.{lt-ltb, le-ltb, ne-eqb}
 use lib.Dec.{ltb}
 use lib.IntN.{ℤ, pos, negsuc}
-use lib.ListN.{length, getD, replicate, length-append, length-replicate, getD-replicate, List·getD-eq-default}
+use lib.ListN.{length, getD, replicate, length-append}
 use lib.Seq.{getD-append-add}
 use lib.Signed.{mag, natAbs-le}
 use Rattle.num.specs.Word.{Bytes, wordAt}
@@ -18,7 +18,8 @@ use Rattle.num.specs.Signed.{signedOf, wordOf, signedAt, signed-word, word-fits
 use Rattle.num.specs.Metric.{size}
 use Rattle.num.specs.Runs.{le4, flat, splice}
 use Rattle.num.specs.RunLaws.{length-splice, splice-splice}
-use Rattle.law.specs.Lists.{All, never-true}
+use Rattle.law.specs.Lists.{All, never-true, getD-filled}
+use Rattle.law.specs.Says.{by-test}
 use Rattle.answer.specs.declared.Answer.{Answer}
 use Rattle.answer.specs.Answers.{codeOf, ticketOf, toldOf, amountOf, itemBytes, itemsBytes, answerBytes}
 use Rattle.answer.specs.AnswerLaws.{length-item, code-most}
@@ -69,10 +70,6 @@ length-line number disk a k =
     omega (arith, length-append (decimal number) (next disk ++ itemText a k), length-append (next disk) (itemText a k))
 
 -- ---- the lines of grants
-
-by-bool : (P : Bool → Type 0) → P true → P false → (t : Bool) → P t
-by-bool P y n true = y
-by-bool P y n false = n
 
 pub grant-most : (a : List ℕ) (k : ℕ) → isGrant a k ≡ true → k ≤ 8
 unfolding isGrant
@@ -144,15 +141,16 @@ module _ (number disk : ℕ) (a : List ℕ) (h : disk < 256) (b : Bytes a) where
   unfolding grantLines
   grants-most zero k = omega arith
   grants-most (suc most) k =
-      by-bool (λ t. length (cond t ((43 ∷ lineOf number disk a k) ++ grantLines most number disk a (k + 1)) []) ≤ 72 * suc most)
-      (omega (
+      by-test (λ l. length l ≤ 72 * suc most) (isGrant a k)
+      {x = (43 ∷ lineOf number disk a k) ++ grantLines most number disk a (k + 1)} {y = []}
+      (λ e.
+      omega (
         arith,
         length-append (43 ∷ lineOf number disk a k) (grantLines most number disk a (k + 1)),
         line-most number disk a k h b,
         grants-most most (k + 1),
       ))
-      (omega arith)
-      (isGrant a k)
+      (λ e. omega arith)
 
   pub lines-most : length (linesOf number disk a) ≤ 648
   lines-most = omega (arith, length-lines number disk a, line-most number disk a 0 h b, grants-most 8 1)
@@ -187,11 +185,7 @@ unfolding wordAt
 word-zeros n j = rw (byte j, byte (j + 1), byte (j + 2), byte (j + 3))
   where
     byte : (i : ℕ) → getD {A = ℕ} (replicate n 0) i 0 ≡ 0
-    byte i = go (ltb i n) refl
-      where
-        go : (v : Bool) → ltb i n ≡ v → getD {A = ℕ} (replicate n 0) i 0 ≡ 0
-        go true v = getD-replicate n i 0 0 (ltb-true i n v)
-        go false v = List·getD-eq-default (replicate n 0) 0 {n = i} (omega (arith, ltb-false i n v, length-replicate {A = ℕ} n 0))
+    byte i = getD-filled n i 0
 
 four-words : (c t w m : ℕ) (rest : List ℕ) → c < 2 ^ 32 → t < 2 ^ 32 → w < 2 ^ 32 → m < 2 ^ 32 →
     (wordAt (flat (c ∷ t ∷ w ∷ m ∷ []) ++ rest) 0 ≡ c)
@@ -243,7 +237,7 @@ module _ (k : ℕ) (front : List ℕ) (h : length front ≡ 16 * k) (x : Answer)
 none-shown : (k : ℕ) (front : List ℕ) → length front ≡ 16 * k → (n : ℕ) → isGrant (front ++ replicate n 0) k ≡ false
 unfolding isGrant
 none-shown k front h n =
-    rw (word-behind front (replicate n 0) (16 * k) 4 h, word-zeros n 4) (by-bool (λ t. cond t false false ≡ false) refl refl (ltb 8 k))
+    rw (word-behind front (replicate n 0) (16 * k) 4 h, word-zeros n 4) (by-test (λ t. t ≡ false) (ltb 8 k) (λ e. refl) (λ e. refl))
 
 grants-shown : (number disk : ℕ) (gs : List Answer) (most k : ℕ) (front : List ℕ) (n : ℕ) → length front ≡ 16 * k → length gs ≤ most →
     k + most ≤ 9 → All GrantFits gs →

@@ -1,43 +1,41 @@
 -- Laws: what a call says fits the items of the answer buffer, on any board, and a pass grants at most 8 claims, each with a ticket.
 use Prim.Native.Nat.{ℕ, _+_, _^_, _≤_, _<_}
-use mathlib.Core.Bool.{Bool, true, false, cond}
+use mathlib.Core.Bool.{true}
 use mathlib.Core.List.{List, [], _∷_, _++_}
 use mathlib.Core.Path.{_≡_, refl}
 use native.Mathlib.Omega.{arith}
 use borrow.Author.Tests.{ltb-false}
-use lib.Dec.{leb, eqb}
-use lib.IntN.{ℤ, pos, negsuc}
 use lib.ListN.{length, length-append, length-map}
 use lib.Signed.{mag}
-use Rattle.num.specs.Word.{Bytes, wordAt}
+use mir.Syntax.{w32}
+use Rattle.num.specs.Word.{Bytes}
 use Rattle.num.specs.WordLaws.{word-at-fits}
-use Rattle.num.specs.Opened.{openAt}
-use Rattle.num.specs.Metric.{size}
+use Rattle.num.specs.Fits.{size-fits}
 use Rattle.law.specs.declared.Claim.{Claim}
 use Rattle.law.specs.Lists.{All, all-say, all-append, all-there, all-map, length-more}
-use Rattle.law.specs.Types.{mostError, Attribute, a0, a1, a2, Kind, sets, adds, reads, properKind, Figures, attr, Core, Disk as LawDisk, Item, Outcome, refused, accepted}
-use Rattle.law.specs.Fields.{ValueFits, FieldsFit}
+use Rattle.law.specs.Types.{Attribute, Kind, attr, Core, Disk as LawDisk, Item, Outcome, refused, accepted}
+use Rattle.law.specs.Fields.{ValueFits}
 use Rattle.law.specs.Sound.{LimitFits, Sound}
 use Rattle.law.specs.Entries.{kindOf}
-use Rattle.law.specs.Granting.{tellBy, limitBy, granted, grantItem}
+use Rattle.law.specs.Granting.{tellBy, granted, grantItem}
 use Rattle.law.specs.Calls.{item, at, asked, opened, openRefusals, openDisk, finish, without}
 use Rattle.law.specs.History.{Call as LawCall, claims, releases, answered}
-use Rattle.law.specs.Events.{After, unless-after, claim-after, release-after, pass-keeps}
-use Rattle.law.specs.AttributeLaws.{told-range}
+use Rattle.law.specs.Events.{After, by-rules, claim-after, release-after, pass-keeps}
 use Rattle.law.specs.GrantLaws.{grant-says}
 use Rattle.law.specs.FitLaws.{Fit, fit-grant}
 use Rattle.law.specs.SoundKept.{sound-fit, sound-finish}
 use Rattle.law.specs.ProperLaws.{proper-kind, disk-proper}
 use Rattle.law.specs.DiskType.{diskTable}
-use Rattle.part.specs.Held.{held, soundPart}
+use Rattle.rules.proofs.RangeLaws.{limit-most, error-most, limit-range, tell-range}
+use Rattle.part.specs.Held.{held}
 use Rattle.part.specs.PartLaws.{sound-held}
 use Rattle.answer.specs.declared.Answer.{Answer}
 use Rattle.answer.specs.declared.Answer.the-variants as A
-use Rattle.answer.specs.declared.Refusal.the-variants as R
 use Rattle.answer.specs.Answers.{codeOf, ticketOf}
-use Rattle.desk.specs.Record.{wellFormed, kindOf as kindByte, diskOf, nowOf, askedOf, callOf, usedLimit, promisedLimit}
-use Rattle.desk.specs.Board.{disks, partOf}
-use Rattle.desk.specs.Step.{answerOf, Said, refuses, tells, ownOf, grantsOf, refusing, settled, serveOf, onPart, opening, onDisk, onBoard, tellOf}
+use Rattle.desk.specs.Record.{diskOf, nowOf, askedOf, callOf, usedLimit, promisedLimit}
+use Rattle.desk.specs.Board.{partOf}
+use Rattle.desk.specs.Step.{answerOf, Said, refuses, tells, ownOf, grantsOf, settled, serveOf, opening, tellOf}
+use Rattle.desk.specs.StepLaws.{by-answer, by-call, by-serve, by-tell}
 use Rattle.stopblocker.specs.LineLaws.{ItemFits, GrantFits}
 
 -- ---- items
@@ -60,26 +58,6 @@ alone-fits code ticket h = record { ticket = h; told = omega arith; amount = ome
 
 -- ---- a grant
 
-size-told : (z : ℤ) → size z ≤ mostError → mag z < 2 ^ 31
-size-told (pos n) h = omega arith
-size-told (negsuc n) h = omega arith
-
-module _ (f : Figures) where
-  told-by : (k : Kind) → properKind k ≡ true → ((a : Attribute) → ValueFits a (attr f a .value)) → size (tellBy f k) ≤ mostError
-  told-by (sets a) p h = omega arith
-  told-by (adds a) p h = omega arith
-  told-by (reads m) p h = told-range f m p h
-
-  limit-most : (a : Attribute) (n : ℕ) → LimitFits a n → n < 2 ^ 32
-  limit-most a0 n h = omega arith
-  limit-most a1 n h = omega arith
-  limit-most a2 n h = omega arith
-
-  limit-by : (k : Kind) (e : ℕ) → ((a : Attribute) → LimitFits a (attr f a .limit)) → e < 2 ^ 32 → limitBy f k e < 2 ^ 32
-  limit-by (sets a) e h l = limit-most a (attr f a .limit) (h a)
-  limit-by (adds a) e h l = limit-most a (attr f a .limit) (h a)
-  limit-by (reads m) e h l = l
-
 grant-fits : (s : Core) (ahead : List Claim) (c : Claim) → granted diskTable s ahead c ≡ true →
     ((a : Attribute) → ValueFits a (attr (s .figures) a .value)) → ((a : Attribute) → LimitFits a (attr (s .figures) a .limit)) →
     c .error < 2 ^ 32 → 1 ≤ c .ticket → c .ticket < 2 ^ 32 → Grants (grantItem diskTable s c)
@@ -91,17 +69,20 @@ grant-fits s ahead c g values limits e first below =
       fits =
           record {
             ticket = below;
-            told = size-told (tellBy (s .figures) (kindOf diskTable c)) (told-by (s .figures) (kindOf diskTable c) (proper-kind diskTable disk-proper (c .method)) values);
-            amount = omega (arith, grant-says diskTable s ahead c g .inLimit, limit-by (s .figures) (kindOf diskTable c) (c .error) limits e);
+            told = size-fits w32 (tellBy (s .figures) k) (omega (arith, tell-range (s .figures) k (proper-kind diskTable disk-proper (c .method)) values)) .sfits;
+            amount =
+                omega (
+                  arith,
+                  grant-says diskTable s ahead c g .inLimit,
+                  limit-range (s .figures) k (c .error) 4_294_967_295 (λ a. omega (arith, limit-most a (attr (s .figures) a .limit) (limits a))) (omega arith),
+                );
           };
     }
+  where
+    k : Kind
+    k = kindOf diskTable c
 
 -- ---- a pass
-
-error-most : (now : ℕ) (k : Kind) (c : Claim) → FieldsFit now k c → c .error < 2 ^ 32
-error-most now (sets a) c h = omega (arith, h .3)
-error-most now (adds a) c h = omega (arith, h .3)
-error-most now (reads m) c h = omega (arith, h .2)
 
 -- What a pass has granted so far, and what still waits.
 abbrev PassFits : ℕ → Core → List Claim → List Item → Type 0
@@ -112,7 +93,7 @@ turn-fits : (next : ℕ) (s : Core) (ahead : List Claim) (c : Claim) (rest : Lis
 turn-fits next s ahead c rest items g h =
     let fits = all-there _ ahead c rest (h .0 .claims .waiting) in
     grant-fits s ahead c g (λ a. h .0 .attrs a .value) (λ a. h .0 .attrs a .limit)
-    (error-most (s .clock) (kindOf diskTable c) c (fits .passes .fields))
+    (omega (arith, error-most (s .clock) (kindOf diskTable c) c (fits .passes .fields)))
     (fits .first)
     (omega (arith, all-there (λ x. x .ticket < next) ahead c rest (h .0 .claims .tickets .belowWaiting), h .0 .claims .nextLast))
 
@@ -168,63 +149,34 @@ opening-fits b d (accepted e items) h = h
 open-fits : (now l0 l1 : ℕ) → After (λ e items. ItemsFit items) (openDisk now l0 l1)
 unfolding openDisk
 open-fits now l0 l1 =
-    unless-after (λ e items. ItemsFit items) (openRefusals l0 l1) (accepted (opened now l0 l1) (item 3 0 ∷ []))
+    by-rules (After (λ e items. ItemsFit items)) (openRefusals l0 l1) (accepted (opened now l0 l1) (item 3 0 ∷ [])) (λ n. tt)
     (λ ok. (alone-fits 3 0 (omega arith), tt, omega arith))
 
 module _ (b r : List ℕ) (bs : Bytes r) where
   record-fits : CallFits (callOf r)
   unfolding askedOf
-  record-fits = go (eqb (kindByte r) 2)
-    where
-      go : (v : Bool) → CallFits (cond v (claims (askedOf r)) (releases (nowOf r) (wordAt r 12)))
-      go true = word-at-fits r 20 bs
-      go false = word-at-fits r 12 bs
+  record-fits = by-call CallFits r (word-at-fits r 20 bs) (word-at-fits r 12 bs)
 
   serve-fits : (p : List ℕ) → SaidFits (serveOf p (callOf r) .said)
-  unfolding serveOf
-  serve-fits p = go (soundPart p) refl
-    where
-      go : (v : Bool) → soundPart p ≡ v → SaidFits (cond v (settled p (answered diskTable (held p) (callOf r))) (refusing p R.Unsound) .said)
-      go true s = settled-fits p (answered diskTable (held p) (callOf r)) (call-fits (held p) (callOf r) (sound-held p s) record-fits)
-      go false s = tt
-
-  disk-fits : (d : ℕ) → SaidFits (onDisk b r d .said)
-  disk-fits d = go (eqb (kindByte r) 1) (openAt b d)
-    where
-      go : (v o : Bool) →
-          SaidFits
-          (cond v
-          (cond o (refusing b R.Open) (opening b d (openDisk (nowOf r) (usedLimit r) (promisedLimit r))))
-          (cond o (onPart b d (serveOf (partOf b d) (callOf r))) (refusing b R.Closed))
-          .said)
-      go true true = tt
-      go true false =
-          opening-fits b d (openDisk (nowOf r) (usedLimit r) (promisedLimit r)) (open-fits (nowOf r) (usedLimit r) (promisedLimit r))
-      go false true = serve-fits (partOf b d)
-      go false false = tt
+  serve-fits p =
+      by-serve (λ t. SaidFits (t .said)) p (callOf r) tt
+      (λ s. settled-fits p (answered diskTable (held p) (callOf r)) (call-fits (held p) (callOf r) (sound-held p s) record-fits))
 
   pub told-fits : SaidFits (tellOf b r .said)
-  unfolding tellOf onBoard
-  told-fits = go (wellFormed r) (leb disks (diskOf r))
-    where
-      go : (v u : Bool) →
-          SaidFits (cond v (cond u (refusing b R.Disk) (onDisk b r (diskOf r))) (refusing b R.Record) .said)
-      go false u = tt
-      go true true = tt
-      go true false = disk-fits (diskOf r)
+  told-fits =
+      by-tell (λ t. SaidFits (t .said)) b r (λ x. tt)
+      (λ w known o.
+      opening-fits b (diskOf r) (openDisk (nowOf r) (usedLimit r) (promisedLimit r)) (open-fits (nowOf r) (usedLimit r) (promisedLimit r)))
+      (λ w known o. serve-fits (partOf b (diskOf r)))
 
 -- ---- what is said, as answers
 
 item-fits : (i : Item) → Fits i → ItemFits (answerOf i)
-unfolding answerOf
-item-fits i f = go (eqb (i .code) 0) (eqb (i .code) 1) (eqb (i .code) 2)
-  where
-    go : (u v w : Bool) →
-        ItemFits (cond u (A.Granted (i .ticket) (i .told) (i .amount)) (cond v (A.Waits (i .ticket)) (cond w (A.Released (i .ticket)) A.Opened)))
-    go true v w = record { ticket = f .ticket; told = f .told; amount = f .amount }
-    go false true w = record { ticket = f .ticket; told = omega arith; amount = omega arith }
-    go false false true = record { ticket = f .ticket; told = omega arith; amount = omega arith }
-    go false false false = record { ticket = omega arith; told = omega arith; amount = omega arith }
+item-fits i f =
+    by-answer ItemFits i (record { ticket = f .ticket; told = f .told; amount = f .amount })
+    (record { ticket = f .ticket; told = omega arith; amount = omega arith })
+    (record { ticket = f .ticket; told = omega arith; amount = omega arith })
+    (record { ticket = omega arith; told = omega arith; amount = omega arith })
 
 -- The answer of an item that grants.
 answer-is : (i : Item) → i .code ≡ 0 → answerOf i ≡ A.Granted (i .ticket) (i .told) (i .amount)

@@ -1,5 +1,5 @@
 -- Each entry by itself; only under G is there a sum, and it is the one that fits.
-use Prim.Native.Nat.{_+_}
+use Prim.Native.Nat.{_+_, _≤_}
 use native.Mathlib.Omega.{arith}
 use borrow.Author.Tests.{leb-true}
 use borrow.Author.Needs.{needs}
@@ -21,17 +21,16 @@ enum-told-4 c = search needs
 cast-result : tie.Need-cast-result
 cast-result c = search needs
 
+-- Under G the sum is within the limit.
+within : (c : tie.After-struct-known) →
+    let a = c .before .before .before .args in a .x .amount + a .raise ≤ a .x .error
+within c = leb-true _ _ (rw (c .before .enum-told4 .given .1) at (c .before .before .before .pre))
+
 add-result : tie.Need-add-result
-add-result c =
-    let s = c .before .before .before in
-    let h = rw (c .before .enum-told4 .given .1) at (s .pre) in
-    record { fits = omega (arith, leb-true (s .args .x .amount + s .args .raise) (s .args .x .error) h) }
+add-result c = record { fits = omega (arith, within c) }
 
 cast-result-2 : tie.Need-cast-result-2
-cast-result-2 c =
-    let s = c .before .before .before in
-    let h = rw (c .before .enum-told4 .given .1) at (s .pre) in
-    record { fits = omega (arith, leb-true (s .args .x .amount + s .args .raise) (s .args .x .error) h) }
+cast-result-2 c = record { fits = omega (arith, within c) }
 
 returns : tie.Need-returns
 returns c = search needs

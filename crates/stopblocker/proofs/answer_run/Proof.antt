@@ -14,18 +14,18 @@ use borrow.Author.Needs.{needs}
 use Rattle.stopblocker.proofs.answer_run.Statement.{statement}
 use Rattle.stopblocker.proofs.answer_run.Tie as tie
 
-module _ (b₀ s : List ℕ) (from : ℕ) (last : Bool) (l₀ : List ℕ) where
-  record Going (b l : List ℕ) (n number at to : ℕ) : Type 0 where
-    board : length b ≡ length b₀
-    size : length l ≡ length l₀
-    stop : to ≡ dueAt s at last
-    within : at ≤ length s
-    room : at < length s → n ≤ 27 * at
-    short : n ≤ 27 * at + 648
-    count : number ≤ from + at
-    same : answeredBy (length s - at) s last (reached b (take n l) number at) ≡ answeredRun b₀ s from last
+record Going (b₀ s : List ℕ) (from : ℕ) (last : Bool) (l₀ b l : List ℕ) (n number at to : ℕ) : Type 0 where
+  board : length b ≡ length b₀
+  size : length l ≡ length l₀
+  stop : to ≡ dueAt s at last
+  within : at ≤ length s
+  room : at < length s → n ≤ 27 * at
+  short : n ≤ 27 * at + 648
+  count : number ≤ from + at
+  same : answeredBy (length s - at) s last (reached b (take n l) number at) ≡ answeredRun b₀ s from last
 
-  begun : (to : ℕ) → to ≡ dueAt s 0 last → Going b₀ l₀ 0 from 0 to
+module _ {b₀ s : List ℕ} {from : ℕ} {last : Bool} {l₀ : List ℕ} where
+  begun : (to : ℕ) → to ≡ dueAt s 0 last → Going b₀ s from last l₀ b₀ l₀ 0 from 0 to
   begun to h =
       let e : length s - 0 ≡ length s = omega arith in
       record {
@@ -39,7 +39,7 @@ module _ (b₀ s : List ℕ) (from : ℕ) (last : Bool) (l₀ : List ℕ) where
         same = rw e;
       }
 
-  module _ (wide : 27 * length s + 648 ≤ length l₀) (b l : List ℕ) (n number at to : ℕ) (g : Going b l n number at to) (t : at < to) where
+  module _ {b l : List ℕ} {n number at to : ℕ} (g : Going b₀ s from last l₀ b l n number at to) (wide : 27 * length s + 648 ≤ length l₀) (t : at < to) where
     -- The piece is within the run, and there is room for its lines.
     inside : to ≤ length s
     inside = omega (arith, g .stop, due s at last .within (g .within))
@@ -54,7 +54,7 @@ module _ (b₀ s : List ℕ) (from : ℕ) (last : Bool) (l₀ : List ℕ) where
     text = answerLines b piece (number + 1)
 
     again : (b′ l′ : List ℕ) (n′ to′ : ℕ) → length b′ ≡ length b → b′ ≡ called b piece .bytes → n′ ≡ n + length text →
-        l′ ≡ splice l n text → n′ ≤ n + 648 → to′ ≡ dueAt s to last → Going b′ l′ n′ (number + 1) to to′
+        l′ ≡ splice l n text → n′ ≤ n + 648 → to′ ≡ dueAt s to last → Going b₀ s from last l₀ b′ l′ n′ (number + 1) to to′
     again b′ l′ n′ to′ k hb hn hl most ht =
         let e = reached b (take n l) number at in
         let m = length s - at - 1 in
@@ -79,9 +79,9 @@ module _ (b₀ s : List ℕ) (from : ℕ) (last : Bool) (l₀ : List ℕ) where
               ∙ (sym (answered-more s last m e d) ∙ (ap (λ x. answeredBy x s last e) (sym q) ∙ g .same)))));
         }
 
-  done : (b l : List ℕ) (n number at to : ℕ) → Going b l n number at to → to ≤ at →
+  done : {b l : List ℕ} {n number at to : ℕ} → Going b₀ s from last l₀ b l n number at to → to ≤ at →
       reached b (take n l) number at ≡ answeredRun b₀ s from last
-  done b l n number at to g h =
+  done {b} {l} {n} {number} {at} {to} g h =
       sym (answered-none s last (length s - at) (reached b (take n l) number at) (omega (arith, g .stop))) ∙ g .same
 
 abbrev Inv-loop : tie.InvT-loop
@@ -95,17 +95,12 @@ due-requires : tie.Need-due-requires Inv-loop μ-loop
 due-requires c κs = search needs
 
 loop-holds : tie.Need-loop-holds Inv-loop μ-loop
-loop-holds c =
-    let a = c .before .before .before .before .args in
-    begun (a .board .now) (a .run .now) (a .from) (a .last) (a .lines .now) (c .due .result) (c .due .ensures)
+loop-holds c = begun (c .due .result) (c .due .ensures)
 
 -- The piece that the loop stands at is within the run.
 in-run : (p : tie.At-loop Inv-loop μ-loop) → p .loop .at < p .loop .to →
     p .loop .to ≤ length (p .before .before .before .before .before .args .run .now)
-in-run p t =
-    let s = p .before .before .before .before .before in
-    let a = s .args in
-    inside (a .board .now) (a .run .now) (a .from) (a .last) (a .lines .now) (s .pre .0) (p .loop .board) (p .loop .lines) (p .loop .length) (p .loop .number) (p .loop .at) (p .loop .to) (p .loop .inv) t
+in-run p t = inside (p .loop .inv) (p .before .before .before .before .before .pre .0) t
 
 add-number : tie.Need-add-number Inv-loop μ-loop
 add-number c =
@@ -125,10 +120,9 @@ part-answer-piece-end c = in-run (c .before .before) (c .before .loop-test .take
 
 answer-piece-requires : tie.Need-answer-piece-requires Inv-loop μ-loop
 answer-piece-requires c κs =
-    let p = c .before .before .before .before in
-    let s = p .before .before .before .before .before in
-    let a = s .args in
-    free (a .board .now) (a .run .now) (a .from) (a .last) (a .lines .now) (s .pre .0) (p .loop .board) (p .loop .lines) (p .loop .length) (p .loop .number) (p .loop .at) (p .loop .to) (p .loop .inv) (c .before .before .before .loop-test .taken)
+    let t = c .before .before .before in
+    let p = t .before in
+    free (p .loop .inv) (p .before .before .before .before .before .pre .0) (t .loop-test .taken)
 
 due-requires-2 : tie.Need-due-requires-2 Inv-loop μ-loop
 due-requires-2 c κs = search needs
@@ -143,10 +137,8 @@ loop-again c =
     let w = c .before .before .before .before .before in
     let t = w .before .before .before .before in
     let p = t .before in
-    let s = p .before .before .before .before .before in
-    let a = s .args in
     let k : length (w .answer-piece .last .0) ≡ length (p .loop .board) = search needs in
-    again (a .board .now) (a .run .now) (a .from) (a .last) (a .lines .now) (s .pre .0) (p .loop .board) (p .loop .lines) (p .loop .length) (p .loop .number) (p .loop .at) (p .loop .to) (p .loop .inv) (t .loop-test .taken)
+    again (p .loop .inv) (p .before .before .before .before .before .pre .0) (t .loop-test .taken)
     (w .answer-piece .last .0) (w .answer-piece .last .1 .1 .1 .0) (w .answer-piece .result) (c .due2 .result) k
     (w .answer-piece .ensures .0) (w .answer-piece .ensures .1 .0) (w .answer-piece .ensures .1 .1 .0) (w .answer-piece .ensures .1 .1 .1) (c .due2 .ensures)
 
@@ -159,12 +151,8 @@ same-length-2 c = c .before .loop .inv .size
 returns : tie.Need-returns Inv-loop μ-loop
 returns c =
     let p = c .before in
-    let s = p .before .before .before .before .before in
-    let a = s .args in
-    let g = p .loop .inv in (
-      done (a .board .now) (a .run .now) (a .from) (a .last) (a .lines .now) (p .loop .board) (p .loop .lines) (p .loop .length) (p .loop .number) (p .loop .at) (p .loop .to) g (c .loop-test .left),
-      (omega (arith, g .short, g .within, s .pre .0), (g .within, g .count)),
-    )
+    let g = p .loop .inv in
+    (done g (c .loop-test .left), (omega (arith, g .short, g .within, p .before .before .before .before .before .pre .0), (g .within, g .count)))
 
 pub answer-run-spec : {M : Type 1} → statement M
 answer-run-spec =

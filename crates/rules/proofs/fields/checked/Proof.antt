@@ -2,21 +2,18 @@
 use mathlib.Core.Bool.{not}
 use mathlib.Core.Path.{sym, ap, _∙_}
 use borrow.Author.Needs.{needs}
-use Rattle.lock.specs.Methods.{figuresOf}
 use Rattle.rules.proofs.CallLaws.{first-15, first-16, first-17, first-18, first-19, first-none}
 use Rattle.rules.proofs.fields.checked.Statement.{statement}
 use Rattle.rules.proofs.fields.checked.Tie as tie
 
 returns : tie.Need-returns
 returns c =
-    let a = c .before .args in
-    first-15 (figuresOf (a .used) (a .promised) (a .state)) (a .clock) (a .now) (a .c) (c .if1 .taken)
+    first-15 _ _ _ _ (c .if1 .taken)
 
 returns-2 : tie.Need-returns-2
 returns-2 c =
     let t = c .before .before in
-    let a = t .before .args in
-    first-16 (figuresOf (a .used) (a .promised) (a .state)) (a .clock) (a .now) (a .c) (t .if1 .left) (c .if2 .taken)
+    first-16 _ _ _ _ (t .if1 .left) (c .if2 .taken)
 
 fields-fit-requires : tie.Need-fields-fit-requires
 fields-fit-requires c κs = search needs
@@ -25,8 +22,7 @@ returns-3 : tie.Need-returns-3
 returns-3 c =
     let m = c .before .before in
     let t = m .before .before in
-    let a = t .before .args in
-    first-17 (figuresOf (a .used) (a .promised) (a .state)) (a .clock) (a .now) (a .c) (t .if1 .left) (m .if2 .left)
+    first-17 _ _ _ _ (t .if1 .left) (m .if2 .left)
     (ap not (sym (c .before .fields-fit .ensures)) ∙ c .if3 .taken)
 
 own-fits-requires : tie.Need-own-fits-requires
@@ -37,8 +33,7 @@ returns-4 c =
     let f = c .before .before in
     let m = f .before .before in
     let t = m .before .before in
-    let a = t .before .args in
-    first-18 (figuresOf (a .used) (a .promised) (a .state)) (a .clock) (a .now) (a .c) (t .if1 .left) (m .if2 .left)
+    first-18 _ _ _ _ (t .if1 .left) (m .if2 .left)
     (ap not (sym (f .before .fields-fit .ensures)) ∙ f .if3 .left)
     (ap not (sym (c .before .own-fits .ensures)) ∙ c .if4 .taken)
 
@@ -48,8 +43,7 @@ returns-5 c =
     let f = o .before .before in
     let m = f .before .before in
     let t = m .before .before in
-    let a = t .before .args in
-    first-19 (figuresOf (a .used) (a .promised) (a .state)) (a .clock) (a .now) (a .c) (t .if1 .left) (m .if2 .left)
+    first-19 _ _ _ _ (t .if1 .left) (m .if2 .left)
     (ap not (sym (f .before .fields-fit .ensures)) ∙ f .if3 .left)
     (ap not (sym (o .before .own-fits .ensures)) ∙ o .if4 .left)
     (c .if5 .taken)
@@ -60,8 +54,7 @@ returns-6 c =
     let f = o .before .before in
     let m = f .before .before in
     let t = m .before .before in
-    let a = t .before .args in
-    first-none (figuresOf (a .used) (a .promised) (a .state)) (a .clock) (a .now) (a .c) (t .if1 .left) (m .if2 .left)
+    first-none _ _ _ _ (t .if1 .left) (m .if2 .left)
     (ap not (sym (f .before .fields-fit .ensures)) ∙ f .if3 .left)
     (ap not (sym (o .before .own-fits .ensures)) ∙ o .if4 .left)
     (c .if5 .left)
