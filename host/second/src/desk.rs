@@ -4,7 +4,7 @@ use crate::disk::Disk;
 use crate::layout::{encode, first_difference};
 use crate::outcome::{Item, Outcome};
 use crate::record::{self, Kind};
-use crate::rules::{self, Refusal};
+use crate::rules::{self, Asked, Refusal};
 use crate::sound::sound;
 use crate::{ANSWER, BOARD, DISKS, HEAD, PART};
 
@@ -96,7 +96,24 @@ impl Desk {
                     Ok(items)
                 }
             },
-            Kind::Claim(asked) => rules::claim(open_and_sound(place)?, now, asked),
+            Kind::Claim {
+                method,
+                priority,
+                fresh,
+                measured,
+                value,
+                error_or_limit,
+            } => {
+                let asked = Asked {
+                    method,
+                    priority,
+                    fresh,
+                    measured,
+                    value,
+                    error_or_limit,
+                };
+                rules::claim(open_and_sound(place)?, now, asked)
+            }
             Kind::Release { ticket } => rules::release(open_and_sound(place)?, now, ticket),
         }
     }

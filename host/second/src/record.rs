@@ -1,7 +1,5 @@
 //! The request record: 24 bytes to a request, and for tests a request to 24 bytes.
 
-use crate::disk::Claim;
-use crate::table::Method;
 use crate::RECORD;
 
 /// "0–1 the mark 0x52 0x42".
@@ -25,38 +23,17 @@ pub enum Kind {
         limit_of_used: i64,
         limit_of_promised: i64,
     },
-    Claim(Asked),
+    Claim {
+        method: i64,
+        priority: i64,
+        fresh: bool,
+        measured: i64,
+        value: i64,
+        error_or_limit: i64,
+    },
     Release {
         ticket: i64,
     },
-}
-
-/// What a claim's record says, before its method is known to be one.
-#[derive(Clone, Debug, PartialEq, Eq)]
-pub struct Asked {
-    pub method: i64,
-    pub priority: i64,
-    pub fresh: bool,
-    pub measured: i64,
-    pub value: i64,
-    pub error_or_limit: i64,
-}
-
-impl Asked {
-    /// The claim, with its method and that ticket.
-    pub fn claim(self, ticket: i64, method: Method) -> Claim {
-        Claim {
-            ticket,
-            method,
-            priority: self.priority,
-            fresh: self.fresh,
-            measured: self.measured,
-            value: self.value,
-            error_or_limit: self.error_or_limit,
-            told: 0,
-            amount: 0,
-        }
-    }
 }
 
 /// None where the refusal is 10: "record not 24 bytes, wrong mark or kind, flag over 1,
@@ -76,14 +53,14 @@ pub fn read(record: &[u8]) -> Option<Request> {
             limit_of_promised: unsigned(20),
         },
         // "4 method; 5 priority, 255 the highest; 6 fresh flag 0 or 1"
-        CLAIM if bytes[6] <= 1 => Kind::Claim(Asked {
+        CLAIM if bytes[6] <= 1 => Kind::Claim {
             method: i64::from(bytes[4]),
             priority: i64::from(bytes[5]),
             fresh: bytes[6] == 1,
             measured: unsigned(12),
             value: i64::from(word(16) as i32),
             error_or_limit: unsigned(20),
-        }),
+        },
         // "and release (4–6, 16–23) are zero."
         RELEASE if zero(4, 6) && zero(16, 23) => Kind::Release {
             ticket: unsigned(12),

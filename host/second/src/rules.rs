@@ -5,7 +5,6 @@ use crate::disk::{
 };
 use crate::grant::{decide, grant};
 use crate::outcome::{Item, OPENED, RELEASED, WAITS};
-use crate::record::Asked;
 use crate::table::{Action, Method};
 
 /// "Refusal numbers, in the order they apply" (9 stands in `Outcome`).
@@ -35,6 +34,17 @@ pub enum Refusal {
     EightWait = 20,
     /// "release of a ticket neither active nor waiting"
     NoSuchTicket = 21,
+}
+
+/// What a claim's record says, before its method is known to be one.
+#[derive(Clone, Debug)]
+pub struct Asked {
+    pub method: i64,
+    pub priority: i64,
+    pub fresh: bool,
+    pub measured: i64,
+    pub value: i64,
+    pub error_or_limit: i64,
 }
 
 /// 17: "a field out of range: values, errors, limits; a reading with value or second of measuring
@@ -82,8 +92,18 @@ pub fn claim(disk: &mut Disk, now: i64, asked: Asked) -> Result<Vec<Item>, Refus
         return Err(Refusal::BelowClock);
     }
     let method = Method::of_number(asked.method).ok_or(Refusal::MethodAbove6)?;
-    // "a granted or waiting claim takes the next one"
-    let claim = asked.claim(disk.next_ticket, method);
+    let claim = Claim {
+        // "a granted or waiting claim takes the next one"
+        ticket: disk.next_ticket,
+        method,
+        priority: asked.priority,
+        fresh: asked.fresh,
+        measured: asked.measured,
+        value: asked.value,
+        error_or_limit: asked.error_or_limit,
+        told: 0,
+        amount: 0,
+    };
     if out_of_range(&claim, now) {
         return Err(Refusal::OutOfRange);
     }

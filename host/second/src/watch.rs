@@ -265,13 +265,32 @@ fn without_readers(disk: &mut Disk) {
 /// "a well-formed reading": by its own bytes it earns no 10, 11, 16 or 17.
 fn well_formed_reading(bytes: &[u8]) -> Option<(i64, Claim)> {
     let request = record::read(bytes)?;
-    let Kind::Claim(asked) = request.kind else {
-        return None;
+    let (asked, in_range) = match request.kind {
+        Kind::Claim {
+            method,
+            priority,
+            fresh,
+            measured,
+            value,
+            error_or_limit,
+        } => {
+            let asked = Claim {
+                ticket: 0,
+                method: Method::of_number(method).filter(|m| m.is_reading())?,
+                priority,
+                fresh,
+                measured,
+                value,
+                error_or_limit,
+                told: 0,
+                amount: 0,
+            };
+            let in_range = amount_in_range(error_or_limit) && value == 0 && measured == 0;
+            (asked, in_range)
+        }
+        _ => return None,
     };
-    let method = Method::of_number(asked.method).filter(|m| m.is_reading())?;
-    let claim = asked.claim(0, method);
-    let in_range = amount_in_range(claim.error_or_limit) && claim.value == 0 && claim.measured == 0;
-    (request.disk < DISKS && in_range).then_some((request.now, claim))
+    (request.disk < DISKS && in_range).then_some((request.now, asked))
 }
 
 /// "is granted in its own call if tickets remain, fewer than eight claims are active, none active

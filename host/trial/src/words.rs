@@ -2,7 +2,7 @@
 
 use crate::damage::DAMAGES;
 use crate::event::{Call, Event, Why};
-use second::record::{self, Asked, Kind};
+use second::record::{self, Kind};
 use second::{sound, ANSWER, BOARD, PART};
 
 const METHODS: [&str; 7] =
@@ -64,7 +64,7 @@ fn call_words(call: &Call) -> String {
                 Kind::Open { limit_of_used, limit_of_promised } => {
                     format!("open disk {disk} at {now}, limits {limit_of_used} and {limit_of_promised}")
                 }
-                Kind::Claim(Asked { method, priority, fresh, measured, value, error_or_limit }) => {
+                Kind::Claim { method, priority, fresh, measured, value, error_or_limit } => {
                     let name = METHODS.get(method as usize).map_or(format!("method {method}"), |name| name.to_string());
                     let fields = match method {
                         0..=3 => format!("{value}, own error {error_or_limit}, measured {measured}"),

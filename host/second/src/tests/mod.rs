@@ -11,7 +11,7 @@ mod watching;
 
 use crate::record::{self, Fields};
 use crate::watch::Watch;
-use crate::{encode, sound, Claim, Desk, Disk, Item, Method, Outcome, ANSWER, BOARD};
+use crate::{encode, sound, Desk, Disk, Item, Outcome, ANSWER, BOARD};
 
 pub const DISK: u8 = 3;
 
@@ -50,21 +50,6 @@ pub fn read_load(limit: u32) -> Fields {
 }
 pub fn read_state(limit: u32) -> Fields {
     reading(6, limit)
-}
-
-/// A claim as a part holds it, priority 5, all else 0.
-pub fn claim(ticket: i64, method: Method) -> Claim {
-    Claim {
-        ticket,
-        method,
-        priority: 5,
-        fresh: false,
-        measured: 0,
-        value: 0,
-        error_or_limit: 0,
-        told: 0,
-        amount: 0,
-    }
 }
 
 impl Fields {

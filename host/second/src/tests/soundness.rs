@@ -2,7 +2,21 @@
 
 use super::*;
 use crate::sound::*;
-use crate::Attribute;
+use crate::{Attribute, Claim, Method};
+
+fn claim(ticket: i64, method: Method) -> Claim {
+    Claim {
+        ticket,
+        method,
+        priority: 5,
+        fresh: false,
+        measured: 0,
+        value: 0,
+        error_or_limit: 0,
+        told: 0,
+        amount: 0,
+    }
+}
 
 /// Two active readings and an active report, a waiting set and a waiting add; clock 40.
 fn rich() -> Disk {

@@ -1,6 +1,7 @@
 //! The watch: what it counts, and that it sees what it is there to see.
 
 use super::*;
+use crate::{Claim, Method};
 
 #[test]
 fn equality_is_met_and_carried_error_is_not_the_amount() {
@@ -98,10 +99,21 @@ fn readings_that_had_to_be_granted() {
 
 #[test]
 fn a_reading_kept_waiting_or_refused_without_need_is_seen() {
+    let waiting = Claim {
+        ticket: 1,
+        method: Method::ReadUsed,
+        priority: 5,
+        fresh: false,
+        measured: 0,
+        value: 0,
+        error_or_limit: 0,
+        told: 0,
+        amount: 0,
+    };
     let mut run = Run::usual();
     let mut disk = run.disk().clone();
     disk.next_ticket = 2;
-    disk.waiting.push(claim(1, Method::ReadUsed));
+    disk.waiting.push(waiting);
     run.put(&disk);
     let record = record::claim(&read_used(0));
     let wrong = waits(1);
