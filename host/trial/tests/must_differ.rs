@@ -140,7 +140,7 @@ fn a_line_that_differs_is_told() {
 #[test]
 fn what_a_fuzz_run_did_not_meet_is_named() {
     assert_eq!(unseen(&[0; 22]), (0..=3).chain(9..=21).collect::<Vec<_>>());
-    assert_eq!(unseen(&[1; 22]), []);
+    assert!(unseen(&[1; 22]).is_empty());
     let mut codes = [1; 22];
     codes[14] = 0;
     assert_eq!(unseen(&codes), [14]);
