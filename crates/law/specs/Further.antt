@@ -160,6 +160,25 @@ queues =
     ∷ claims (priority 7 (reportUsed 2_000 0)) ⇒ waits 4
     ∷ releases 0 1 ⇒ ends 1 (write 3 0 ∷ [])
     ∷ [])
+    -- One pass: the grant of 5 leaves used with amount 0, which 3 could bear, but 3 has been tried. The next pass grants it.
+    ∷ usual
+    (claims (reportUsed 0 5) ⇒ grants (write 1 5)
+    ∷ releases 0 1 ⇒ ends 1 []
+    ∷ claims (readUsed 5) ⇒ grants (reading 2 (pos 0) 5)
+    ∷ claims (priority 10 (readUsed 4)) ⇒ waits 3
+    ∷ claims (priority 9 (reportUsed 500 0)) ⇒ waits 4
+    ∷ claims (priority 8 (reportUsed 0 0)) ⇒ waits 5
+    ∷ releases 0 4 ⇒ ends 4 (write 5 0 ∷ [])
+    ∷ releases 0 2 ⇒ ends 2 (reading 3 (pos 0) 0 ∷ [])
+    ∷ [])
+    -- A grant by itself starts no pass: 3 leaves used with amount 0, and 2 waits on till the release.
+    ∷ usual
+    (claims (reportUsed 40 5) ⇒ grants (write 1 5)
+    ∷ releases 0 1 ⇒ ends 1 []
+    ∷ claims (readUsed 4) ⇒ waits 2
+    ∷ claims (priority 4 (reportUsed 41 0)) ⇒ grants (write 3 0)
+    ∷ releases 0 3 ⇒ ends 3 (reading 2 (pos 41) 0 ∷ [])
+    ∷ [])
     -- An item shows the amount at its grant: 0, though the next grant of the pass brings the reading to 50.
     ∷ usual
     (claims (reportUsed 300 0) ⇒ grants (write 1 0)
