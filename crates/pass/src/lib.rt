@@ -4,18 +4,21 @@
 ghost use mathlib.Core.Bool.{true, false};
 ghost use mathlib.Core.List.{map};
 ghost use mathlib.Core.Path.{_≡_};
-ghost use Prim.Native.Nat.{_+_, _≤_, _<_};
+ghost use Prim.Native.Nat.{_+_, _*_, _≤_, _<_};
 ghost use lib.ListN.{length};
 ghost use Rattle.law.specs.Base.{sumOf};
+ghost use Rattle.num.specs.Runs.{splice};
+ghost use Rattle.law.specs.Granting.{total as lawTotal, grantItem};
+ghost use Rattle.law.specs.GrantLaws.{MayGrant};
 ghost use Rattle.law.specs.Calls.{pass as lawPass};
 ghost use Rattle.law.specs.Sound.{Sound};
 ghost use Rattle.law.specs.DiskType.{diskTable};
 ghost use Rattle.lock.specs.Masks.{methodsOf};
 ghost use Rattle.lock.specs.Pairs.{addOf};
-ghost use Rattle.rules.specs.Disks.{Good, DiskIs};
+ghost use Rattle.rules.specs.Disks.{coreIn, diskOf, Good, DiskIs, grantOf, TellFits};
 ghost use Rattle.part.specs.Layout.{decode, decodes};
 ghost use Rattle.part.specs.Held.{held, partFor};
-ghost use Rattle.answer.specs.Answers.{OwnOnly, Behind};
+ghost use Rattle.answer.specs.Answers.{OwnOnly, Behind, itemBytes};
 ghost use Rattle.place.specs.Holding.{Holds};
 ghost use Rattle.judge.specs.Decisions.{activesIn, BeforeLast};
 ghost use Rattle.pass.specs.Turns.{grantAnswer, keptAt, TurnFits, Turned, closedAt, passedOf};
@@ -57,6 +60,25 @@ fn keep(s: &mut [u8], i: usize, k: usize) -> usize
     k + 1
 }
 
+// The claim c granted, with its total; its grant stands in the buffer behind the call's own answer and n other grants.
+fn give(s: &mut [u8], answer: &mut [u8], n: usize, c: Claim, total: u32)
+    requires { ⌜ length (now s) ≡ 768 ⌝ }
+    requires { ⌜ Holds (now s) (decode (now s)) ⌝ }
+    requires { ⌜ Good (decode (now s)) ⌝ }
+    requires { ⌜ MayGrant diskTable (coreIn (decode (now s))) c ⌝ }
+    requires { ⌜ TellFits (decode (now s)) c ⌝ }
+    requires { ⌜ total ≡ lawTotal diskTable (coreIn (decode (now s))) c ⌝ }
+    requires { ⌜ length (now answer) ≡ 144 ⌝ }
+    requires { ⌜ n < 8 ⌝ }
+    ensures { λ _. ⌜ Holds (now (s .exit)) (decode (now (s .exit))) ⌝ }
+    ensures { λ _. ⌜ DiskIs (decode (now (s .exit))) (grantOf (diskOf (decode (now (s .entry)))) c) ⌝ }
+    ensures { λ _. ⌜ now (answer .exit) ≡ splice (now (answer .entry)) (16 + 16 * n) (itemBytes (grantAnswer (grantItem diskTable (coreIn (decode (now (s .entry)))) c))) ⌝ }
+{
+    let z = narrow(told(c.method, used_at(s), promised_at(s), code_at(s)));
+    grant(s, c, z, total);
+    put_grant(answer, n, c.ticket, z, total);
+}
+
 // The i-th waiting claim, of which k ahead still wait: it is granted, and its grant stands behind those of the i - k others;
 // or it waits on in the k-th place. How many wait then. With eight active, or one active whose entry is N, it waits undecided,
 // and only its method is looked at.
@@ -81,10 +103,7 @@ fn turn(s: &mut [u8], answer: &mut [u8], i: usize, k: usize, adds: u64, methods:
     let c = waiting_at(s, i);
     let v = decide(s, k, c, word_at(s, 0), adds, methods);
     if v.ok {
-        let z = narrow(told(c.method, used_at(s), promised_at(s), code_at(s)));
-        let total = v.total as u32;
-        grant(s, c, z, total);
-        put_grant(answer, i - k, c.ticket, z, total);
+        give(s, answer, i - k, c, v.total as u32);
         return k;
     }
     keep(s, i, k)

@@ -8,15 +8,12 @@ use borrow.Author.Tests.{leb-true, not-true}
 use lib.Bits.{bitAnd}
 use lib.Dec.{leb, eqb}
 use lib.ListN.{length}
-use mir.Facts.{toZ-ofZ}
 use Rattle.num.specs.Runs.{splice}
 use Rattle.law.specs.declared.Claim.{Claim}
 use Rattle.law.specs.Types.{mostError}
-use Rattle.law.specs.Entries.{kindAt, kindOf}
-use Rattle.law.specs.Granting.{tellBy, total, granted, grantItem}
+use Rattle.law.specs.Granting.{total, granted, grantItem}
 use Rattle.law.specs.GrantLaws.{MayGrant, grant-says}
 use Rattle.law.specs.DiskType.{diskTable}
-use Rattle.lock.specs.Methods.{figuresOf}
 use Rattle.claims.specs.RowLaws.{row-length}
 use Rattle.lock.specs.Masks.{neverMask}
 use Rattle.lock.proofs.MaskLaws.{one-never}
@@ -24,11 +21,10 @@ use Rattle.judge.specs.Decisions.{activesIn, DecidedIs}
 use Rattle.judge.proofs.ReadLaws.{actives-read}
 use Rattle.judge.proofs.DecideLaws.{full-waits, never-waits}
 use Rattle.rules.specs.declared.disk.Disk.{Disk}
-use Rattle.rules.specs.Disks.{figuresIn, coreIn, diskOf, DiskIs, grantOf}
+use Rattle.rules.specs.Disks.{figuresIn, coreIn, diskOf, DiskIs, grantOf, TellFits}
 use Rattle.part.specs.Layout.{decode}
-use Rattle.answer.specs.declared.Answer.the-variants.{Granted}
 use Rattle.answer.specs.Answers.{itemBytes}
-use Rattle.pass.specs.Turns.{tried, front, TurnBy}
+use Rattle.pass.specs.Turns.{grantAnswer, tried, front, TurnBy}
 use Rattle.pass.proofs.PassLaws.{tell-fits, total-most}
 use Rattle.pass.proofs.turn.Statement.{statement}
 use Rattle.pass.proofs.turn.Tie as tie
@@ -69,12 +65,6 @@ module _ (b : tie.Then2) where
 
   pub few : b .before .decide .result .total ≤ mostError
   few = omega (arith, sum, total-most d (start .args .i) (start .pre .1 .1 .1 .0) may)
-
--- What it is told.
-told-is : (t : tie.After-told) → t .told .result ≡ tellBy (figuresIn (disk (t .before .before .before .before .before .before .before .before .before .before .before .before .before .before .before .before .before .before .before .before .before .before .before))) (kindOf diskTable (tried (disk (t .before .before .before .before .before .before .before .before .before .before .before .before .before .before .before .before .before .before .before .before .before .before .before)) (t .before .before .before .before .before .before .before .before .before .before .before .before .before .before .before .before .before .before .before .before .before .before .before .args .i)))
-told-is t =
-    t .told .ensures .0
-    ∙ (λ j. tellBy (figuresOf (t .before .before .before .before .before .used-at .ensures j) (t .before .before .before .promised-at .ensures j) (t .before .code-at .ensures j)) (kindAt diskTable (t .before .before .before .before .before .before .before .before .before .before .before .waiting-at2 .ensures j .method)))
 
 -- The i-th claim is what is read.
 read-is : (w : tie.After-waiting-at) → w .waiting-at .result ≡ tried (disk (w .before .before .before .before)) (w .before .before .before .before .args .i)
@@ -149,58 +139,32 @@ decide-requires c κs =
     let p = k .pre .1 .1 .1 .1 .1 .1 in
     (k .pre .0, (k .pre .1 .1 .0, (omega (arith, k .pre .1 .1 .1 .1 .1 .0, place k), (p .1 .0, (p .1 .1 .0, p .1 .1 .1)))))
 
-used-at-requires : tie.Need-used-at-requires
-used-at-requires c κs = search needs
+sub-give : tie.Need-sub-give
+sub-give c = omega (arith, c .before .before .before .before .before .before .before .before .before .before .before .before .before .before .before .before .before .before .pre .1 .1 .1 .1 .1 .0)
 
-promised-at-requires : tie.Need-promised-at-requires
-promised-at-requires c κs = c .before .before .before .before .before .before .before .before .before .before .before .before .before .before .before .before .before .before .before .pre .0
+cast-give : tie.Need-cast-give
+cast-give c = record { fits = omega (arith, few (c .before .before .before)) }
 
-code-at-requires : tie.Need-code-at-requires
-code-at-requires c κs = c .before .before .before .before .before .before .before .before .before .before .before .before .before .before .before .before .before .before .before .before .before .pre .0
-
-told-requires : tie.Need-told-requires
-told-requires c κs = search needs
-
-narrow-requires : tie.Need-narrow-requires
-narrow-requires c κs =
-    let k = c .before .before .before .before .before .before .before .before .before .before .before .before .before .before .before .before .before .before .before .before .before .before .before in
-    rw (toZ-ofZ (record { sfits = c .told .ok }), told-is c) (omega (arith, tell-fits (disk k) (k .args .i) (k .pre .1 .1 .1 .0)))
-
-cast-total : tie.Need-cast-total
-cast-total c = record { fits = omega (arith, few (c .before .before .before .before .before .before .before .before .before)) }
-
-grant-requires : tie.Need-grant-requires
-grant-requires c κs =
-    let b = c .before .before .before .before .before .before .before .before .before .before in
-    let k = c .before .before .before .before .before .before .before .before .before .before .before .before .before .before .before .before .before .before .before .before .before .before .before .before .before .before in
-    let e = c .before .before .before .before .before .before .before .before .before .before .before .before .before .before .waiting-at2 .ensures in (
+give-requires : tie.Need-give-requires
+give-requires c κs =
+    let b = c .before .before .before in
+    let k = start b in
+    let e = sym (c .before .before .before .before .before .before .before .waiting-at2 .ensures) in (
       k .pre .0,
       (
         k .pre .1 .0,
         (
           k .pre .1 .1 .0,
           (
-            subst (MayGrant diskTable (coreIn (disk k))) (sym e) (may b),
+            subst (MayGrant diskTable (coreIn (disk k))) e (may b),
             (
-              toZ-ofZ (record { sfits = c .before .before .narrow .ok })
-                  ∙ c .before .before .narrow .ensures
-                  ∙ toZ-ofZ (record { sfits = c .before .before .before .told .ok })
-                  ∙ told-is (c .before .before .before)
-                  ∙ ap (λ (x : Claim). tellBy (figuresIn (disk k)) (kindOf diskTable x)) (sym e),
-              sum b ∙ ap (total diskTable (coreIn (disk k))) (sym e),
+              subst (TellFits (disk k)) e (tell-fits (disk k) (k .args .i) (k .pre .1 .1 .1 .0)),
+              (sum b ∙ ap (total diskTable (coreIn (disk k))) e, (k .pre .1 .1 .1 .1 .1 .1 .0, omega (arith, place k))),
             ),
           ),
         ),
       ),
     )
-
-sub-put-grant : tie.Need-sub-put-grant
-sub-put-grant c = omega (arith, c .before .before .before .before .before .before .before .before .before .before .before .before .before .before .before .before .before .before .before .before .before .before .before .before .before .before .before .before .before .before .pre .1 .1 .1 .1 .1 .0)
-
-put-grant-requires : tie.Need-put-grant-requires
-put-grant-requires c κs =
-    let k = c .before .before .before .before .before .before .before .before .before .before .before .before .before .before .before .before .before .before .before .before .before .before .before .before .before .before .before .before .before .before in
-    (k .pre .1 .1 .1 .1 .1 .1 .0, omega (arith, place k))
 
 same-length-2 : tie.Need-same-length-2
 same-length-2 c = search needs
@@ -209,24 +173,18 @@ same-length-3 : tie.Need-same-length-3
 same-length-3 c = search needs
 
 returns-2 : tie.Need-returns-2
-unfolding grantItem
 returns-2 c =
-    let k = c .before .before .before .before .before .before .before .before .before .before .before .before .before .before .before .before .before .before .before .before .before .before .before .before .before .before .before .before .before .before .before .before .before in
-    let b = c .before .before .before .before .before .before .before .before .before .before .before .before .before .before .before .before .before in
+    let b = c .before .before .before .before .before .before .before .before in
+    let k = start b in
     let a = k .args in
-    let e = c .before .before .before .before .before .before .before .before .before .before .before .before .before .before .before .before .before .before .before .before .before .waiting-at2 .ensures in
-    let z =
-    toZ-ofZ (record { sfits = c .before .before .before .before .before .before .before .before .before .narrow .ok })
-    ∙ c .before .before .before .before .before .before .before .before .before .narrow .ensures
-    ∙ toZ-ofZ (record { sfits = c .before .before .before .before .before .before .before .before .before .before .told .ok })
-    ∙ told-is (c .before .before .before .before .before .before .before .before .before .before) in
-    let g = c .before .before .before .before .before .before .grant in (
+    let e = c .before .before .before .before .before .before .before .before .before .before .before .before .waiting-at2 .ensures in
+    let g = c .before .before .before .before .give in (
       g .ensures .0,
-      subst (λ (v : Bool). TurnBy v (disk k) (decode (g .last .0)) (a .answer .now) (c .before .before .put-grant .last .0) (a .i) (a .k) (a .k)) (sym (yes b)) (
+      subst (λ (v : Bool). TurnBy v (disk k) (decode (g .last .0)) (a .answer .now) (g .last .1 .0) (a .i) (a .k) (a .k)) (sym (yes b)) (
         refl,
-        subst (λ (x : Claim). DiskIs (decode (g .last .0)) (grantOf (diskOf (disk k)) x)) e (g .ensures .1),
-        c .before .before .put-grant .ensures
-            ∙ (λ j. splice (a .answer .now) (16 + 16 * (a .i - a .k)) (itemBytes (Granted (e j .ticket) (z j) (sum b j)))),
+        subst (λ (x : Claim). DiskIs (decode (g .last .0)) (grantOf (diskOf (disk k)) x)) e (g .ensures .1 .0),
+        g .ensures .1 .1
+            ∙ ap (λ (x : Claim). splice (a .answer .now) (16 + 16 * (a .i - a .k)) (itemBytes (grantAnswer (grantItem diskTable (coreIn (disk k)) x)))) e,
       ),
     )
 
@@ -263,15 +221,9 @@ turn-spec =
     waiting-at-requires-2
     word-at-requires-2
     decide-requires
-    used-at-requires
-    promised-at-requires
-    code-at-requires
-    told-requires
-    narrow-requires
-    cast-total
-    grant-requires
-    sub-put-grant
-    put-grant-requires
+    sub-give
+    cast-give
+    give-requires
     same-length-2
     same-length-3
     returns-2

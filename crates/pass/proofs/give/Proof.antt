@@ -1,0 +1,95 @@
+-- What is read is what the disk has, so that the claim is told the law's sum; the item shows it, and the total.
+use Prim.Native.Nat.{_+_, _*_}
+use mathlib.Core.Path.{_≡_, _∙_}
+use native.Mathlib.Omega.{arith}
+use borrow.Author.Needs.{needs}
+use mir.Facts.{toZ-ofZ}
+use Rattle.num.specs.Runs.{splice}
+use Rattle.law.specs.Entries.{kindAt, kindOf}
+use Rattle.law.specs.Granting.{tellBy, grantItem}
+use Rattle.law.specs.DiskType.{diskTable}
+use Rattle.lock.specs.Methods.{figuresOf}
+use Rattle.rules.specs.declared.disk.Disk.{Disk}
+use Rattle.rules.specs.Disks.{figuresIn}
+use Rattle.part.specs.Layout.{decode}
+use Rattle.answer.specs.declared.Answer.the-variants.{Granted}
+use Rattle.answer.specs.Answers.{itemBytes}
+use Rattle.pass.proofs.give.Statement.{statement}
+use Rattle.pass.proofs.give.Tie as tie
+
+-- The disk of the part.
+abbrev disk : tie.Start → Disk
+disk k = decode (k .args .s .now)
+
+-- What it is told, and that in 32 bits.
+told-is : (t : tie.After-told) → let k = t .before .before .before .before .before .before .before .before .before in t .told .result ≡ tellBy (figuresIn (disk k)) (kindOf diskTable (k .args .c))
+told-is t =
+    t .told .ensures .0
+    ∙ (λ j. tellBy (figuresOf (t .before .before .before .before .before .used-at .ensures j) (t .before .before .before .promised-at .ensures j) (t .before .code-at .ensures j)) (kindAt diskTable (t .before .before .before .before .before .before .before .before .before .args .c .method)))
+
+sum-is : (n : tie.After-narrow) → let k = n .before .before .before .before .before .before .before .before .before .before in n .narrow .result ≡ tellBy (figuresIn (disk k)) (kindOf diskTable (k .args .c))
+sum-is n = n .narrow .ensures ∙ toZ-ofZ (record { sfits = n .before .told .ok }) ∙ told-is (n .before)
+
+used-at-requires : tie.Need-used-at-requires
+used-at-requires c κs = search needs
+
+promised-at-requires : tie.Need-promised-at-requires
+promised-at-requires c κs = c .before .before .before .before .before .pre .0
+
+code-at-requires : tie.Need-code-at-requires
+code-at-requires c κs = c .before .before .before .before .before .before .before .pre .0
+
+told-requires : tie.Need-told-requires
+told-requires c κs = search needs
+
+narrow-requires : tie.Need-narrow-requires
+narrow-requires c κs =
+    rw (toZ-ofZ (record { sfits = c .told .ok }), told-is c) (omega (arith, c .before .before .before .before .before .before .before .before .before .pre .1 .1 .1 .1 .0))
+
+grant-requires : tie.Need-grant-requires
+grant-requires c κs =
+    let k = c .before .before .before .before .before .before .before .before .before .before .before in
+    let z = toZ-ofZ (record { sfits = c .before .narrow .ok }) ∙ sum-is (c .before) in
+    (k .pre .0, (k .pre .1 .0, (k .pre .1 .1 .0, (k .pre .1 .1 .1 .0, (z, k .pre .1 .1 .1 .1 .1 .0)))))
+
+put-grant-requires : tie.Need-put-grant-requires
+put-grant-requires c κs =
+    let k = c .before .before .before .before .before .before .before .before .before .before .before .before .before .before .before in
+    (k .pre .1 .1 .1 .1 .1 .1 .0, k .pre .1 .1 .1 .1 .1 .1 .1)
+
+same-length : tie.Need-same-length
+same-length c = search needs
+
+same-length-2 : tie.Need-same-length-2
+same-length-2 c = search needs
+
+returns : tie.Need-returns
+unfolding grantItem
+returns c =
+    let k = c .before .before .before .before .before .before .before .before .before .before .before .before .before .before .before .before .before .before in
+    let a = k .args in
+    let n = c .before .before .before .before .before .before .before .before in
+    let z = toZ-ofZ (record { sfits = n .narrow .ok }) ∙ sum-is n in
+    let g = c .before .before .before .before .before .before .grant .ensures in (
+      g .0,
+      (
+        g .1,
+        c .before .before .put-grant .ensures
+            ∙ (λ j. splice (a .answer .now) (16 + 16 * a .n) (itemBytes (Granted (a .c .ticket) (z j) (k .pre .1 .1 .1 .1 .1 .0 j)))),
+      ),
+    )
+
+pub give-spec : {M : Type 1} → statement M
+give-spec =
+    tie.close
+    (tie.spec
+    used-at-requires
+    promised-at-requires
+    code-at-requires
+    told-requires
+    narrow-requires
+    grant-requires
+    put-grant-requires
+    same-length
+    same-length-2
+    returns)
