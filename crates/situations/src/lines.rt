@@ -15,7 +15,7 @@ const OPENED: u32 = 3;
 const ITEM_BYTES: usize = 16;
 
 // A refusal has its number; an accepted call its own item, and the grants of its pass on lines of their own.
-pub fn print_answer(situation: u32, kind: u32, answer: &[u8])
+pub(crate) fn print_answer(situation: u32, kind: u32, answer: &[u8])
     requires { ⌜ length (now answer) ≡ 144 ⌝ }
 {
     print_name(situation);
@@ -32,7 +32,7 @@ pub fn print_answer(situation: u32, kind: u32, answer: &[u8])
 }
 
 // What the active claim of that ticket was told, and its amount.
-pub fn print_shown(situation: u32, ticket: u32, told: i32, amount: u32) {
+pub(crate) fn print_shown(situation: u32, ticket: u32, told: i32, amount: u32) {
     print_name(situation);
     io::write_all(1, b"shows ");
     io::print_decimal(1, ticket as u64);

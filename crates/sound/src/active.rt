@@ -48,7 +48,7 @@ pub struct Walked {
 }
 
 // Each active claim fits by itself, no two have entry N, and |promised| with the |d| of the active adds is in range.
-pub fn actives_fit(s: &[u8]) -> Walked
+pub(crate) fn actives_fit(s: &[u8]) -> Walked
     requires { ⌜ length (now s) ≡ 768 ⌝ }
     requires { ⌜ decodes (now s) ≡ true ⌝ }
     requires { ⌜ figuresFit (figuresIn (decode (now s))) (decode (now s) .clock) (decode (now s) .next) ≡ true ⌝ }

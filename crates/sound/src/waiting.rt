@@ -26,7 +26,7 @@ pub struct Waited {
 
 // Each waiting claim fits by itself; where none waits nothing more is read. The bits of the tickets are gathered on from those
 // handed in.
-pub fn waitings_fit(s: &[u8], tickets: u64, again: u64) -> Waited
+pub(crate) fn waitings_fit(s: &[u8], tickets: u64, again: u64) -> Waited
     requires { ⌜ length (now s) ≡ 768 ⌝ }
     requires { ⌜ decodes (now s) ≡ true ⌝ }
     requires { ⌜ figuresFit (figuresIn (decode (now s))) (decode (now s) .clock) (decode (now s) .next) ≡ true ⌝ }
