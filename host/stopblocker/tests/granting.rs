@@ -23,14 +23,6 @@ both!(
     items_show_the_amount_at_the_grant,
 );
 
-// Places in the part.
-const USED: usize = 16;
-const PROMISED: usize = 32;
-const STATE: usize = 48;
-
-// Behind a figure's value.
-const STAMP: usize = 4;
-
 /// The part's words, clock and next ticket left out.
 fn all_but_clock_and_next<D: Desk>(desk: &D) -> Vec<u32> {
     (2..PART / 4).map(|word| desk.word(4 * word)).collect()

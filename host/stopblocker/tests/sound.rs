@@ -17,20 +17,6 @@ both!(
     every_slot_taken,
 );
 
-// Places in the part.
-const CLOCK: usize = 0;
-const NEXT_TICKET: usize = 4;
-const ACTIVE_COUNT: usize = 8;
-const WAITING_COUNT: usize = 12;
-const USED: usize = 16;
-const PROMISED: usize = 32;
-const STATE: usize = 48;
-
-// Places in a figure.
-const STAMP: usize = 4;
-const AMOUNT: usize = 8;
-const LIMIT: usize = 12;
-
 const fn active(k: usize) -> usize {
     64 + 44 * k
 }

@@ -13,6 +13,20 @@ pub const DISK: u8 = 3;
 /// Where its part begins.
 pub const AT: usize = 64 + PART * DISK as usize;
 
+// Places in the part.
+pub const CLOCK: usize = 0;
+pub const NEXT_TICKET: usize = 4;
+pub const ACTIVE_COUNT: usize = 8;
+pub const WAITING_COUNT: usize = 12;
+pub const USED: usize = 16;
+pub const PROMISED: usize = 32;
+pub const STATE: usize = 48;
+
+// Places in a figure.
+pub const STAMP: usize = 4;
+pub const AMOUNT: usize = 8;
+pub const LIMIT: usize = 12;
+
 pub const REPORT_USED: u8 = 0;
 pub const ADD_PROMISED: u8 = 1;
 pub const SET_PROMISED: u8 = 2;
