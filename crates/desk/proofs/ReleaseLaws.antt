@@ -17,8 +17,8 @@ use Rattle.law.specs.SoundKept.{sound-finish}
 use Rattle.law.specs.TicketLaws.{Apart}
 use Rattle.law.specs.ProperLaws.{disk-proper}
 use Rattle.law.specs.DiskType.{diskTable}
-use Rattle.claims.specs.Rows.{noClaim, placeOf, removeAt}
-use Rattle.claims.specs.PlaceLaws.{any-first, place-ticket, without-place}
+use Rattle.rules.specs.Rows.{noClaim, placeOf, removeAt}
+use Rattle.rules.specs.PlaceLaws.{any-first, place-ticket, without-place}
 use Rattle.rules.specs.Answers.{endedAt, leftAt}
 use Rattle.judge.specs.Decisions.{HasMethod}
 use Rattle.pass.specs.Turns.{passedOf}

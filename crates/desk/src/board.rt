@@ -51,11 +51,11 @@ pub extern "C" fn step(board: &mut [u8], r: &[u8], answer: &mut [u8]) -> u32
     if !well_formed(r) {
         return refuse(answer, Refusal::Record);
     }
-    accept(board, r, answer)
+    on_board(board, r, answer)
 }
 
 // A well-formed record on a board.
-fn accept(board: &mut [u8], r: &[u8], answer: &mut [u8]) -> u32
+fn on_board(board: &mut [u8], r: &[u8], answer: &mut [u8]) -> u32
     requires { ⌜ length (now board) ≡ 49_216 ⌝ }
     requires { ⌜ length (now r) ≡ 24 ⌝ }
     requires { ⌜ length (now answer) ≡ 144 ⌝ }

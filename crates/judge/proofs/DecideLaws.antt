@@ -15,10 +15,10 @@ use Rattle.law.specs.Entries.{entry, isNever}
 use Rattle.law.specs.Granting.{addsOn, total, lockStep, bars, granted}
 use Rattle.law.specs.Sound.{Sound}
 use Rattle.law.specs.DiskType.{diskTable}
-use Rattle.lock.specs.Methods.{preOf}
-use Rattle.lock.specs.Pairs.{coreOf, addOf, barsBy}
-use Rattle.lock.proofs.EntryLaws.{last-test}
-use Rattle.lock.proofs.RuleLaws.{pre-is}
+use Rattle.rules.specs.Methods.{preOf}
+use Rattle.rules.specs.Pairs.{coreOf, addOf, barsBy}
+use Rattle.rules.proofs.EntryLaws.{last-test}
+use Rattle.rules.proofs.RuleLaws.{pre-is}
 use Rattle.rules.specs.declared.disk.Disk.{Disk}
 use Rattle.rules.specs.Disks.{diskOf}
 use Rattle.judge.specs.Decisions.{barsAt, barsOf, activesIn, DecidedIs}

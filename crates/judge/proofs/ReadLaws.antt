@@ -4,7 +4,7 @@ use mathlib.Core.List.{List}
 use mathlib.Core.Path.{_≡_, refl}
 use Rattle.num.specs.Word.{wordAt}
 use Rattle.law.specs.declared.Claim.{Claim}
-use Rattle.claims.specs.Rows.{Row}
+use Rattle.rules.specs.Rows.{Row}
 use Rattle.part.specs.Layout.{decode}
 
 pub actives-read : (s : List ℕ) → wordAt s 8 ≡ decode s .actives

@@ -19,11 +19,11 @@ use Rattle.law.specs.Entries.{kindAt, kindOf, entryBy, entry, isAlways, isNever
 use Rattle.law.specs.Lists.{All, all-say, never-true, sum-zero}
 use Rattle.law.specs.Granting.{limitBy, gapBy, costBy, raisesBy, start, cost, stays, total, lockStep}
 use Rattle.law.specs.DiskType.{diskTable}
-use Rattle.claims.specs.Rows.{noClaim}
-use Rattle.lock.specs.Methods.{isReading}
-use Rattle.lock.specs.Masks.{methodsOf, otherMask}
-use Rattle.lock.specs.Pairs.{coreOf, letsBy, costOn, costBetween, raiseOf, barsBy}
-use Rattle.lock.proofs.MaskLaws.{all-always}
+use Rattle.rules.specs.Rows.{noClaim}
+use Rattle.rules.specs.Methods.{isReading}
+use Rattle.rules.specs.Masks.{methodsOf, otherMask}
+use Rattle.rules.specs.Pairs.{coreOf, letsBy, costOn, costBetween, raiseOf, barsBy}
+use Rattle.rules.proofs.MaskLaws.{all-always}
 use Rattle.judge.specs.Decisions.{letsOf, costOf, barsAt}
 
 -- ---- tests and sums of two functions that agree

@@ -11,10 +11,10 @@ use Rattle.law.specs.Types.{Figures, Core}
 use Rattle.law.specs.Entries.{kindAt, entryBy}
 use Rattle.law.specs.Granting.{total, granted}
 use Rattle.law.specs.DiskType.{diskTable}
-use Rattle.claims.specs.Rows.{noClaim}
-use Rattle.lock.specs.Masks.{methodBit, methodsOf}
-use Rattle.lock.specs.Methods.{isReading}
-use Rattle.lock.specs.Pairs.{addOf, letsBy, costBetween, raiseOf, barsBy}
+use Rattle.rules.specs.Rows.{noClaim}
+use Rattle.rules.specs.Masks.{methodBit, methodsOf}
+use Rattle.rules.specs.Methods.{isReading}
+use Rattle.rules.specs.Pairs.{addOf, letsBy, costBetween, raiseOf, barsBy}
 use Rattle.rules.specs.declared.disk.Disk.{Disk}
 
 -- The active claim w lets c pass.

@@ -7,18 +7,17 @@ ghost use Rattle.law.specs.Base.{sumOf};
 ghost use Rattle.law.specs.Calls.{claim as lawClaim};
 ghost use Rattle.law.specs.Sound.{Sound};
 ghost use Rattle.law.specs.DiskType.{diskTable};
-ghost use Rattle.lock.specs.Pairs.{addOf};
-ghost use Rattle.lock.specs.Masks.{methodsOf};
+ghost use Rattle.rules.specs.Pairs.{addOf};
+ghost use Rattle.rules.specs.Masks.{methodsOf};
 ghost use Rattle.rules.specs.Disks.{diskOf};
 ghost use Rattle.rules.specs.Answers.{askedOf, shownBy};
 ghost use Rattle.part.specs.Layout.{decodes, decode};
 ghost use Rattle.judge.specs.Decisions.{activesIn};
-use crate::step::decide;
-use lock::figures::told;
+use crate::decision::decide;
 use num::signed::narrow;
 use num::word::word_at;
-use part::read::code_at;
 use part::read::promised_at;
+use part::read::state_at;
 use part::read::used_at;
 use rules::calls::Judgement;
 use rules::calls::asked;
@@ -26,8 +25,9 @@ use rules::calls::unjudged;
 use rules::disk::Asked;
 use rules::disk::Item;
 use rules::fields::checked;
+use rules::figures::told;
 
-pub mod step;
+pub mod decision;
 
 const PLACES: u32 = 8;
 
@@ -45,7 +45,7 @@ pub fn judged(s: &[u8], q: Asked, adds: u64, methods: u64) -> Judgement
     let c = asked(q, next);
     let used = used_at(s);
     let promised = promised_at(s);
-    let state = code_at(s);
+    let state = state_at(s);
     let number = checked(c, second, word_at(s, 0), used, promised, state);
     if number != 0 {
         return unjudged(number);

@@ -13,7 +13,7 @@ use Rattle.num.specs.Runs.{flat, allZero}
 use Rattle.law.specs.declared.Attr.{Attr}
 use Rattle.law.specs.declared.Claim.{Claim}
 use Rattle.law.specs.Base.{allTrue}
-use Rattle.claims.specs.Rows.{noClaim}
+use Rattle.rules.specs.Rows.{noClaim}
 use Rattle.rules.specs.declared.disk.Disk.{Disk}
 
 -- ---- sizes and places

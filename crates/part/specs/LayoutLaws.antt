@@ -17,7 +17,7 @@ use Rattle.num.specs.RunLaws.{length-le4, length-flat, put-splice, splice-first
 use Rattle.law.specs.declared.Attr.{Attr}
 use Rattle.law.specs.declared.Claim.{Claim}
 use Rattle.law.specs.Lists.{Passed, passed, all-passed}
-use Rattle.claims.specs.Rows.{noClaim, Row}
+use Rattle.rules.specs.Rows.{noClaim, Row}
 use Rattle.rules.specs.declared.disk.Disk.{Disk}
 use Rattle.rules.specs.Disks.{Good}
 use Rattle.part.specs.Layout.{slots, inSlots, attrAt, stateAt, headWords, decode, encode, zeroAt, spareZero, slotsWhole, decodes, AttrFits, StateFits, ClaimsFit, DiskFits}

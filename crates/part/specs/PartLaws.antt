@@ -9,7 +9,7 @@ use lib.Dec.{ltb}
 use lib.ListN.{length, getD, replicate, length-append, length-replicate, getD-replicate, List·getD-append, List·getD-eq-default}
 use lib.Seq.{getD-append-add, take-append-seam}
 use Rattle.num.specs.Word.{Bytes}
-use Rattle.claims.specs.Rows.{Row, noClaim}
+use Rattle.rules.specs.Rows.{Row, noClaim}
 use Rattle.law.specs.declared.Claim.{Claim}
 use Rattle.law.specs.Lists.{All, all-at, and-left, and-right}
 use Rattle.law.specs.Types.{a0, a1, a2, places, Disk as LawDisk}

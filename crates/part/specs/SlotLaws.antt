@@ -17,7 +17,7 @@ use Rattle.num.specs.Runs.{le4, flat, splice, allZero}
 use Rattle.num.specs.RunLaws.{length-flat, flat-append, flat-one, splice-first, splice-second, splice-whole, splice-splice}
 use Rattle.law.specs.declared.Claim.{Claim}
 use Rattle.law.specs.Lists.{and-left, and-right, all-passed}
-use Rattle.claims.specs.Rows.{noClaim, Row}
+use Rattle.rules.specs.Rows.{noClaim, Row}
 use Rattle.part.specs.Layout.{claimIn, claimWords, slots, inSlots, zeroAt, spareZero, slotsWhole, ClaimFits}
 use Rattle.part.specs.ByteLaws.{wordsFrom, flat-words, word-flat, bytes-append, bytes-take, bytes-drop, bytes-flat, zero-append, zero-in, zero-byte, word-none}
 

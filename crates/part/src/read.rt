@@ -1,39 +1,14 @@
-// The disk by value that a part holds.
+// The figures and claims of a part, read where they stand.
 
 ghost use mathlib.Core.Path.{_≡_};
 ghost use Prim.Native.Nat.{_+_, _≤_, _<_};
 ghost use lib.ListN.{length, take, drop, getD};
-ghost use Rattle.claims.specs.Rows.{noClaim};
+ghost use Rattle.rules.specs.Rows.{noClaim};
 ghost use Rattle.part.specs.Layout.{claimIn, slots, attrAt, stateAt, decode};
-use claims::no_claim;
 use law::Attr;
 use law::Claim;
 use num::signed::signed_at;
 use num::word::word_at;
-use rules::disk::Disk;
-
-// The disk of a part.
-pub fn disk_of(s: &[u8]) -> Disk
-    requires { ⌜ length (now s) ≡ 768 ⌝ }
-    ensures { λ r. ⌜ r ≡ decode (now (s .entry)) ⌝ }
-{
-    let used = attr_at(s, 16);
-    let promised = attr_at(s, 32);
-    let state = state_at(s, 48);
-    let active = claims_at(s, 64);
-    let waiting = claims_at(s, 416);
-    Disk {
-        clock: word_at(s, 0),
-        next: word_at(s, 4),
-        actives: word_at(s, 8),
-        waitings: word_at(s, 12),
-        used,
-        promised,
-        state,
-        active,
-        waiting,
-    }
-}
 
 // The three figures of a part.
 pub fn used_at(s: &[u8]) -> Attr
@@ -50,11 +25,11 @@ pub fn promised_at(s: &[u8]) -> Attr
     attr_at(s, 32)
 }
 
-pub fn code_at(s: &[u8]) -> Attr
+pub fn state_at(s: &[u8]) -> Attr
     requires { ⌜ length (now s) ≡ 768 ⌝ }
     ensures { λ r. ⌜ r ≡ decode (now (s .entry)) .state ⌝ }
 {
-    state_at(s, 48)
+    state_in(s, 48)
 }
 
 // The claim of an active slot, and of a waiting one, read where it stands.
@@ -88,7 +63,7 @@ fn attr_at(s: &[u8], at: usize) -> Attr
 }
 
 // The state's two.
-fn state_at(s: &[u8], at: usize) -> Attr
+fn state_in(s: &[u8], at: usize) -> Attr
     requires { ⌜ at + 8 ≤ length (now s) ⌝ }
     ensures { λ r. ⌜ r ≡ stateAt (now (s .entry)) at ⌝ }
 {
@@ -98,20 +73,6 @@ fn state_at(s: &[u8], at: usize) -> Attr
         amount: 0,
         limit: 0,
     }
-}
-
-// The claims of eight slots.
-pub fn claims_at(s: &[u8], at: usize) -> [Claim; 8]
-    requires { ⌜ at + 352 ≤ length (now s) ⌝ }
-    ensures { λ r. ⌜ r ≡ slots 8 (drop at (now (s .entry))) ⌝ }
-{
-    let mut out = [no_claim(); 8];
-    let mut i: usize = 0;
-    while i < 8 {
-        out[i] = claim_at(s, at + 44 * i);
-        i += 1;
-    }
-    out
 }
 
 // The claim of the slot at an index.

@@ -24,18 +24,18 @@ use Rattle.law.specs.DiskType.{diskTable}
 use Rattle.law.specs.GrantLaws.{MayGrant}
 use Rattle.law.specs.ProperLaws.{proper-kind, disk-proper}
 use Rattle.law.specs.AttributeLaws.{note-same}
-use Rattle.claims.specs.Rows.{Row, noClaim}
-use Rattle.claims.specs.RowLaws.{row-length, left-on, left-end, store-row, store-front, store-left}
-use Rattle.lock.specs.Masks.{methodBit, methodsOf}
-use Rattle.lock.specs.Pairs.{addOf}
-use Rattle.lock.proofs.LeftLaws.{methods-last, methods-same, sum-last, adds-same}
+use Rattle.rules.specs.Rows.{Row, noClaim}
+use Rattle.rules.specs.RowLaws.{row-length, left-on, left-end, store-row, store-front, store-left}
+use Rattle.rules.specs.Masks.{methodBit, methodsOf}
+use Rattle.rules.specs.Pairs.{addOf}
+use Rattle.rules.proofs.LeftLaws.{methods-last, methods-same, sum-last, adds-same}
 use Rattle.rules.specs.declared.disk.Disk.{Disk}
 use Rattle.rules.specs.Disks.{figuresIn, coreIn, diskOf, Good, DiskIs, grantOf, TellFits}
 use Rattle.rules.proofs.RangeLaws.{limit-most, error-most, limit-range, tell-range}
 use Rattle.answer.specs.declared.Answer.{Answer}
 use Rattle.answer.specs.Answers.{itemBytes, answerBytes, Behind}
 use Rattle.answer.specs.AnswerLaws.{one-more}
-use Rattle.place.specs.Holding.{withWaiting}
+use Rattle.change.specs.Holding.{withWaiting}
 use Rattle.judge.specs.Decisions.{activesIn, BeforeLast}
 use Rattle.pass.specs.Turns.{grantAnswer, tried, front, TurnFits, TurnBy, Turned, closedAt, passedOf}
 

@@ -11,13 +11,13 @@ use Rattle.law.specs.Fields.{ValueFits}
 use Rattle.law.specs.Granting.{granted, grantItem}
 use Rattle.law.specs.Calls.{pass}
 use Rattle.law.specs.DiskType.{diskTable}
-use Rattle.claims.specs.Rows.{noClaim}
+use Rattle.rules.specs.Rows.{noClaim}
 use Rattle.rules.specs.declared.disk.Disk.{Disk}
 use Rattle.rules.specs.Disks.{figuresIn, coreIn, diskOf, DiskIs, grantOf}
 use Rattle.answer.specs.declared.Answer.{Answer}
 use Rattle.answer.specs.declared.Answer.the-variants.{Granted}
 use Rattle.answer.specs.Answers.{itemBytes}
-use Rattle.place.specs.Holding.{withWaiting}
+use Rattle.change.specs.Holding.{withWaiting}
 
 -- The answer of a grant.
 abbrev pub grantAnswer : Item → Answer

@@ -13,32 +13,32 @@ ghost use Rattle.law.specs.GrantLaws.{MayGrant};
 ghost use Rattle.law.specs.Calls.{pass as lawPass};
 ghost use Rattle.law.specs.Sound.{Sound};
 ghost use Rattle.law.specs.DiskType.{diskTable};
-ghost use Rattle.lock.specs.Masks.{methodsOf};
-ghost use Rattle.lock.specs.Pairs.{addOf};
+ghost use Rattle.rules.specs.Masks.{methodsOf};
+ghost use Rattle.rules.specs.Pairs.{addOf};
 ghost use Rattle.rules.specs.Disks.{coreIn, diskOf, Good, DiskIs, grantOf, TellFits};
 ghost use Rattle.part.specs.Layout.{decode, decodes};
 ghost use Rattle.part.specs.Held.{held, partFor};
 ghost use Rattle.answer.specs.Answers.{OwnOnly, Behind, itemBytes};
-ghost use Rattle.place.specs.Holding.{Holds};
+ghost use Rattle.change.specs.Holding.{Holds};
 ghost use Rattle.judge.specs.Decisions.{activesIn, BeforeLast};
 ghost use Rattle.pass.specs.Turns.{grantAnswer, keptAt, TurnFits, Turned, closedAt, passedOf};
 use answer::put_grant;
-use judge::step::Together;
-use judge::step::decide;
-use judge::step::with_last;
+use change::grant::grant;
+use judge::decision::Together;
+use judge::decision::decide;
+use judge::decision::with_last;
 use law::Claim;
-use lock::figures::told;
-use lock::method::never;
 use num::bits::share;
 use num::signed::narrow;
 use num::truth::either;
 use num::word::put_word;
 use num::word::word_at;
-use part::read::code_at;
 use part::read::promised_at;
+use part::read::state_at;
 use part::read::used_at;
 use part::read::waiting_at;
-use place::grant::grant;
+use rules::figures::told;
+use rules::method::never;
 use slots::clear_from;
 use slots::put_slot;
 
@@ -74,7 +74,7 @@ fn give(s: &mut [u8], answer: &mut [u8], n: usize, c: Claim, total: u32)
     ensures { λ _. ⌜ DiskIs (decode (now (s .exit))) (grantOf (diskOf (decode (now (s .entry)))) c) ⌝ }
     ensures { λ _. ⌜ now (answer .exit) ≡ splice (now (answer .entry)) (16 + 16 * n) (itemBytes (grantAnswer (grantItem diskTable (coreIn (decode (now (s .entry)))) c))) ⌝ }
 {
-    let z = narrow(told(c.method, used_at(s), promised_at(s), code_at(s)));
+    let z = narrow(told(c.method, used_at(s), promised_at(s), state_at(s)));
     grant(s, c, z, total);
     put_grant(answer, n, c.ticket, z, total);
 }

@@ -5,7 +5,7 @@ use mathlib.Core.List.{List}
 use mathlib.Core.Path.{_≡_, refl, sym, ap, _∙_}
 use Rattle.law.specs.declared.Claim.{Claim}
 use Rattle.law.specs.Types.{Core, Asked as LawAsked, Disk as LawDisk}
-use Rattle.claims.specs.Rows.{RowIs}
+use Rattle.rules.specs.Rows.{RowIs}
 use Rattle.rules.specs.DiskLaws.{row-padded}
 use Rattle.rules.specs.declared.disk.Asked.{Asked}
 use Rattle.rules.specs.Answers.{askedOf}
@@ -16,8 +16,8 @@ use Rattle.sound.specs.Seen.{SeenIs, Nothing}
 use Rattle.judge.specs.Decisions.{DecidedIs}
 use Rattle.answer.specs.declared.Answer.{Answer}
 use Rattle.answer.specs.Answers.{OwnOnly, Behind}
-use Rattle.place.specs.Holding.{Holds}
-use Rattle.place.specs.HoldingLaws.{holds-part}
+use Rattle.change.specs.Holding.{Holds}
+use Rattle.change.specs.HoldingLaws.{holds-part}
 use Rattle.desk.specs.declared.board.Count.{Count}
 use Rattle.desk.specs.Counts.{countOf}
 use Rattle.desk.specs.Step.{Stepped, stepped, stepOf}

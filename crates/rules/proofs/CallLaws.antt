@@ -24,9 +24,9 @@ use Rattle.law.specs.SoundTest.{unrefused}
 use Rattle.law.specs.GrantLaws.{MayGrant, grant-says}
 use Rattle.law.specs.ProperLaws.{proper-kind, disk-proper}
 use Rattle.law.specs.DiskType.{diskTable}
-use Rattle.claims.specs.RowLaws.{row-none}
-use Rattle.lock.specs.Methods.{isReading, writtenBy}
-use Rattle.lock.proofs.MethodLaws.{method-past, method-cases}
+use Rattle.rules.specs.RowLaws.{row-none}
+use Rattle.rules.specs.Methods.{isReading, writtenBy}
+use Rattle.rules.proofs.MethodLaws.{method-past, method-cases}
 use Rattle.rules.specs.Disks.{figuresIn, diskOf, Good}
 use Rattle.rules.specs.Answers.{valueBy, shownBy, firstNumber, firstRules, coreAt, TakesGrant, grantedOf, waitingOf, emptyOf}
 use Rattle.rules.specs.declared.disk.Disk.{Disk}

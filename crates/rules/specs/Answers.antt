@@ -7,7 +7,7 @@ use lib.Dec.{leb, ltb}
 use lib.IntN.{ℤ, pos}
 use lib.ListN.{take, getD, replicate}
 use Rattle.num.specs.Metric.{size}
-use Rattle.claims.specs.Rows.{noClaim, removeAt}
+use Rattle.rules.specs.Rows.{noClaim, removeAt}
 use Rattle.law.specs.declared.Claim.{Claim}
 use Rattle.law.specs.Types.{mostValue, mostError, lastTicket, Kind, sets, adds, reads, Figures, Core, Asked as LawAsked, Item as LawItem, Outcome, refused, accepted, Disk as LawDisk}
 use Rattle.law.specs.Entries.{kindOf}
@@ -19,7 +19,7 @@ use Rattle.rules.specs.declared.disk.Disk.{Disk}
 use Rattle.rules.specs.declared.disk.Item.{Item}
 use Rattle.rules.specs.declared.disk.Asked.{Asked}
 use Rattle.rules.specs.declared.calls.Judgement.{Judgement}
-use Rattle.lock.specs.Pairs.{coreOf}
+use Rattle.rules.specs.Pairs.{coreOf}
 use Rattle.rules.specs.Disks.{figuresIn, Good, DiskIs, TellFits}
 
 -- An item that nothing fills.

@@ -11,8 +11,8 @@ use borrow.Author.Tests.{ltb-true, ltb-false}
 use Rattle.law.specs.declared.Claim.{Claim}
 use Rattle.law.specs.Lists.{getD-filled}
 use Rattle.law.specs.Types.{Outcome, refused, accepted, Disk as LawDisk}
-use Rattle.claims.specs.Rows.{Row, noClaim}
-use Rattle.claims.specs.RowLaws.{row-length}
+use Rattle.rules.specs.Rows.{Row, noClaim}
+use Rattle.rules.specs.RowLaws.{row-length}
 use Rattle.rules.specs.declared.disk.Disk.{Disk}
 use Rattle.rules.specs.declared.calls.Answered.{Answered}
 use Rattle.rules.specs.Disks.{DiskIs, padded, byValue}

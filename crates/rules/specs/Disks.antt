@@ -9,9 +9,9 @@ use Rattle.law.specs.Types.{Figures, Core, Disk as LawDisk}
 use Rattle.law.specs.Entries.{kindOf}
 use Rattle.law.specs.Granting.{tellBy, grant}
 use Rattle.law.specs.DiskType.{diskTable}
-use Rattle.claims.specs.Rows.{Row, noClaim}
-use Rattle.lock.specs.Methods.{figuresOf}
-use Rattle.lock.specs.Pairs.{coreOf}
+use Rattle.rules.specs.Rows.{Row, noClaim}
+use Rattle.rules.specs.Methods.{figuresOf}
+use Rattle.rules.specs.Pairs.{coreOf}
 use Rattle.rules.specs.declared.disk.Disk.{Disk}
 
 abbrev pub figuresIn : Disk → Figures

@@ -1,3 +1,9 @@
+pub mod Rows
+pub mod PlaceLaws
+pub mod RowLaws
+pub mod Methods
+pub mod Pairs
+pub mod Masks
 pub mod Disks
 pub mod Answers
 pub mod DiskLaws

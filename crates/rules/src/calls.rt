@@ -8,7 +8,7 @@ use crate::disk::Asked;
 use crate::disk::Disk;
 use crate::disk::Item;
 use crate::disk::no_item;
-use claims::no_claim;
+use crate::row::no_claim;
 use law::Attr;
 use law::Claim;
 

@@ -5,13 +5,13 @@ ghost use Rattle.law.specs.Base.{allTrue};
 ghost use Rattle.law.specs.Entries.{kindAt, kindOf};
 ghost use Rattle.law.specs.Calls.{fieldTests, ownFits};
 ghost use Rattle.law.specs.DiskType.{diskTable};
-ghost use Rattle.lock.specs.Methods.{figuresOf};
+ghost use Rattle.rules.specs.Methods.{figuresOf};
 ghost use Rattle.rules.specs.Answers.{valueBy, firstNumber, firstRules};
+use crate::figures::written;
+use crate::method::METHODS;
+use crate::method::is_reading;
 use law::Attr;
 use law::Claim;
-use lock::figures::written;
-use lock::method::METHODS;
-use lock::method::is_reading;
 use num::signed::size;
 use num::signed::within;
 

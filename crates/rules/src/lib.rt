@@ -1,6 +1,10 @@
-// A disk by value, which is what the bytes of a part mean, and what a call needs of it beside the decision: refusals 15 to 19,
-// the claim that is asked for, and an opened disk.
+// The rules of one claim and of two, in code, and the disk by value that the bytes of a part mean. Functions take claims and
+// numbers, never a list; the walks over the claims of a disk are the judge's and the soundness test's.
 
 pub mod calls;
 pub mod disk;
 pub mod fields;
+pub mod figures;
+pub mod method;
+pub mod pair;
+pub mod row;

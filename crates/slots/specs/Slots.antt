@@ -10,8 +10,8 @@ use Rattle.law.specs.declared.Entry.the-variants.{A, N, D, G}
 use Rattle.law.specs.Entries.{entryBy, kindAt, kindOf}
 use Rattle.law.specs.Granting.{putTold}
 use Rattle.law.specs.DiskType.{diskTable}
-use Rattle.claims.specs.Rows.{noClaim}
-use Rattle.lock.specs.Pairs.{letsBy}
+use Rattle.rules.specs.Rows.{noClaim}
+use Rattle.rules.specs.Pairs.{letsBy}
 use Rattle.part.specs.Layout.{slots, inSlots}
 
 -- The bytes are those of their claims: what carries no figure is zero.

@@ -14,7 +14,7 @@ use Rattle.law.specs.declared.Claim.{Claim}
 use Rattle.law.specs.declared.Entry.{Entry}
 use Rattle.law.specs.declared.Entry.the-variants.{A, N, D, G}
 use Rattle.law.specs.Granting.{putTold}
-use Rattle.claims.specs.Rows.{noClaim, Row}
+use Rattle.rules.specs.Rows.{noClaim, Row}
 use Rattle.part.specs.Layout.{claimIn, claimWords, slots, inSlots, ClaimFits, ClaimsFit}
 use Rattle.part.specs.SlotLaws.{length-slots, length-slot, slots-back, slots-fit, slot-at, put-in-slot}
 use Rattle.slots.specs.Slots.{Kept, raiseBy, mapTo}

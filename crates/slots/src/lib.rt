@@ -4,23 +4,23 @@ ghost use mathlib.Core.Bool.{not, false, true};
 ghost use mathlib.Core.Path.{_≡_};
 ghost use Prim.Native.Nat.{_+_, _-_, _≤_, _<_};
 ghost use lib.ListN.{length, take, getD, set};
-ghost use Rattle.claims.specs.Rows.{noClaim, Row, RowIs, firstOf, placeOf, removeAt};
+ghost use Rattle.rules.specs.Rows.{noClaim, Row, RowIs, firstOf, placeOf, removeAt};
 ghost use Rattle.law.specs.Calls.{before, queue};
 ghost use Rattle.law.specs.Granting.{putTold};
-ghost use Rattle.lock.specs.Pairs.{letsBy};
+ghost use Rattle.rules.specs.Pairs.{letsBy};
 ghost use Rattle.part.specs.Layout.{slots};
 ghost use Rattle.slots.specs.Slots.{Kept, mapTo, raiseBy, raiseWith, Raisable};
-use claims::before;
-use claims::no_claim;
 use law::Claim;
 use law::Entry;
-use lock::method::TABLE;
-use lock::step::entry;
-use lock::step::index_of;
 use num::word::put_word;
 use num::word::word_at;
 use part::read::claim_at;
 use part::write::put_claim;
+use rules::method::TABLE;
+use rules::pair::entry;
+use rules::pair::index_of;
+use rules::row::before;
+use rules::row::no_claim;
 
 // Puts a claim into a slot.
 pub fn put_slot(row: &mut [u8], i: usize, c: Claim)

@@ -21,7 +21,7 @@ use Rattle.law.specs.Entries.{kindAt, kindOf}
 use Rattle.law.specs.Calls.{isCode, valueFits, fieldTests, ownFits}
 use Rattle.law.specs.Sound.{bare, bareBy, readingBy, limitFits}
 use Rattle.law.specs.DiskType.{diskTable}
-use Rattle.lock.proofs.MethodLaws.{method-past, method-cases}
+use Rattle.rules.proofs.MethodLaws.{method-past, method-cases}
 use Rattle.sound.specs.Tests.{figureTests, figureFits, figuresTests, figuresFit, claimTests, claimFits, toldFits, activeFits, waitingFits, ifReading, mostValueBy, isStateSet, valueSizeBy, valueIn, mostErrors, aloneTests, aloneFits, activeBy, waitingBy}
 use Rattle.sound.proofs.WalkLaws.{same-test}
 

@@ -13,8 +13,8 @@ use Rattle.law.specs.Base.{allTrue}
 use Rattle.law.specs.Lists.{all-at}
 use Rattle.law.specs.Sound.{claimsOn, sound}
 use Rattle.law.specs.DiskType.{diskTable}
-use Rattle.claims.specs.Rows.{noClaim}
-use Rattle.claims.specs.RowLaws.{row-length}
+use Rattle.rules.specs.Rows.{noClaim}
+use Rattle.rules.specs.RowLaws.{row-length}
 use Rattle.rules.specs.declared.disk.Disk.{Disk}
 use Rattle.rules.specs.Disks.{diskOf, Good}
 use Rattle.part.specs.Layout.{decode, decodes}

@@ -11,10 +11,10 @@ use Rattle.law.specs.declared.Claim.{Claim}
 use Rattle.law.specs.Base.{everyPair}
 use Rattle.law.specs.Lists.{All, Pairs, all-both, never-true}
 use Rattle.law.specs.DiskType.{diskTable}
-use Rattle.lock.specs.Masks.{methodBit, methodsFrom, methodsOf, rowsTo, neverMask, twiceFrom, twiceOf, shares}
-use Rattle.lock.proofs.MethodLaws.{method-cases, method-past}
-use Rattle.lock.proofs.MaskLaws.{here, methods-each, never-bit}
-use Rattle.lock.proofs.LeftLaws.{shares-bit}
+use Rattle.rules.specs.Masks.{methodBit, methodsFrom, methodsOf, rowsTo, neverMask, twiceFrom, twiceOf, shares}
+use Rattle.rules.proofs.MethodLaws.{method-cases, method-past}
+use Rattle.rules.proofs.MaskLaws.{here, methods-each, never-bit}
+use Rattle.rules.proofs.LeftLaws.{shares-bit}
 use Rattle.sound.specs.Tests.{meets}
 use Rattle.sound.specs.Seen.{mayClash}
 use Rattle.sound.proofs.WalkLaws.{says-two-by-two}

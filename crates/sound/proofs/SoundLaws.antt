@@ -20,8 +20,8 @@ use Rattle.law.specs.Sound.{eachAttribute, bare, bareBy, readingBy, limitFits, 
 use Rattle.law.specs.Says.{_and_}
 use Rattle.law.specs.DiskType.{diskTable}
 use Rattle.law.specs.TableLaws.{disk-methods}
-use Rattle.lock.specs.Pairs.{addOf}
-use Rattle.lock.proofs.EntryLaws.{each-kind}
+use Rattle.rules.specs.Pairs.{addOf}
+use Rattle.rules.proofs.EntryLaws.{each-kind}
 use Rattle.sound.specs.Tests.{figureTests, figureFits, figuresTests, figuresFit, claimTests, claimFits, toldTests, toldFits, activeTests, activeFits, waitingTests, waitingFits, eachActive, activesTests, waitingsFit, codeTests}
 use Rattle.sound.proofs.WalkLaws.{same-test, says-all}
 

@@ -15,7 +15,7 @@ use Rattle.law.specs.Lists.{Passed}
 use Rattle.law.specs.Types.{mostState, a2}
 use Rattle.law.specs.Calls.{valueFits}
 use Rattle.law.specs.DiskType.{diskTable}
-use Rattle.lock.proofs.EntryLaws.{last-test}
+use Rattle.rules.proofs.EntryLaws.{last-test}
 use Rattle.rules.proofs.CallLaws.{state-below, state-from}
 
 -- The test at place k fails.

@@ -10,7 +10,7 @@ use Rattle.num.specs.Bits.{hasBit, bit-set, bit-set-other, or-none}
 use Rattle.law.specs.declared.Claim.{Claim}
 use Rattle.law.specs.Base.{everyPair}
 use Rattle.law.specs.Lists.{All, Pairs, all-say, never-true, and-left, and-right}
-use Rattle.lock.proofs.LeftLaws.{shares-bit}
+use Rattle.rules.proofs.LeftLaws.{shares-bit}
 use Rattle.sound.specs.Tests.{apart}
 use Rattle.sound.specs.Seen.{bitOf, free}
 use Rattle.sound.proofs.WalkLaws.{says-two-by-two}

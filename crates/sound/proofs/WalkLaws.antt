@@ -15,7 +15,7 @@ use Rattle.law.specs.Base.{everyOf, everyPair}
 use Rattle.law.specs.Calls.{before}
 use Rattle.law.specs.Lists.{All, Pairs, all-say, never-true, and-left, and-right}
 use Rattle.law.specs.Says.{Says, says-every, says-pairs, says-self}
-use Rattle.claims.specs.Rows.{noClaim}
+use Rattle.rules.specs.Rows.{noClaim}
 
 -- Two tests of which each passes where the other does are equal.
 pub same-test : (a b : Bool) → (a ≡ true → b ≡ true) → (b ≡ true → a ≡ true) → a ≡ b

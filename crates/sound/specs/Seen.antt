@@ -9,8 +9,8 @@ use Rattle.law.specs.declared.Claim.{Claim}
 use Rattle.law.specs.Base.{sumOf}
 use Rattle.law.specs.Types.{Disk as LawDisk}
 use Rattle.law.specs.Sound.{claimsOn}
-use Rattle.lock.specs.Pairs.{addOf}
-use Rattle.lock.specs.Masks.{methodsOf, twiceOf, shares}
+use Rattle.rules.specs.Pairs.{addOf}
+use Rattle.rules.specs.Masks.{methodsOf, twiceOf, shares}
 
 -- ---- tickets
 

@@ -16,8 +16,8 @@ use Rattle.law.specs.Entries.{kindOf, entry, isNever}
 use Rattle.law.specs.Calls.{valueFits, fieldTests, ownFits, before}
 use Rattle.law.specs.Sound.{bare, bareBy, readingBy, limitFits, claimsOn}
 use Rattle.law.specs.DiskType.{diskTable}
-use Rattle.lock.specs.Methods.{isReading}
-use Rattle.lock.specs.Pairs.{addOf}
+use Rattle.rules.specs.Methods.{isReading}
+use Rattle.rules.specs.Pairs.{addOf}
 
 -- ---- figures
 

@@ -5,16 +5,13 @@ ghost use mathlib.Core.Bool.{true, false};
 ghost use mathlib.Core.Path.{_≡_};
 ghost use lib.ListN.{length};
 ghost use Rattle.rules.specs.Disks.{figuresIn, diskOf};
-ghost use Rattle.lock.specs.Masks.{methodsOf, twiceOf};
+ghost use Rattle.rules.specs.Masks.{methodsOf, twiceOf};
 ghost use Rattle.part.specs.Layout.{decode, decodes};
 ghost use Rattle.sound.specs.Tests.{figuresFit, eachActive, everyMeets, activesFit};
 ghost use Rattle.sound.specs.Seen.{mayClash, SeenIs, Onward};
 use crate::alone::active_fits;
 use crate::alone::most_errors;
 use crate::pairs::meets;
-use lock::method::TABLE;
-use lock::method::own_bit;
-use lock::step::add_part;
 use num::bits::bit_of;
 use num::bits::share;
 use num::signed::size;
@@ -24,6 +21,9 @@ use num::word::word_at;
 use part::read::active_at;
 use part::read::promised_at;
 use part::read::used_at;
+use rules::method::TABLE;
+use rules::method::own_bit;
+use rules::pair::add_part;
 
 const MOST_VALUE: u32 = 1000000000;
 

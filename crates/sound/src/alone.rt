@@ -7,10 +7,10 @@ ghost use Rattle.law.specs.Entries.{kindAt, kindOf};
 ghost use Rattle.law.specs.DiskType.{diskTable};
 ghost use Rattle.sound.specs.Tests.{ifReading, mostValueBy, valueSizeBy, mostErrors, aloneFits, activeBy, waitingBy};
 use law::Claim;
-use lock::method::METHODS;
-use lock::method::is_reading;
 use num::signed::size;
 use num::signed::to_word;
+use rules::method::METHODS;
+use rules::method::is_reading;
 
 const MOST_VALUE: u32 = 1000000000;
 

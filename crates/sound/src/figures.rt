@@ -3,15 +3,15 @@
 ghost use mathlib.Core.Path.{_≡_};
 ghost use lib.ListN.{length};
 ghost use Rattle.law.specs.Types.{a0, a2};
-ghost use Rattle.lock.specs.Methods.{figuresOf};
+ghost use Rattle.rules.specs.Methods.{figuresOf};
 ghost use Rattle.rules.specs.Disks.{figuresIn};
 ghost use Rattle.part.specs.Layout.{decode};
 ghost use Rattle.sound.specs.Tests.{figureFits, figuresFit};
 use law::Attr;
 use num::signed::within;
 use num::word::word_at;
-use part::read::code_at;
 use part::read::promised_at;
+use part::read::state_at;
 use part::read::used_at;
 
 const MOST_VALUE: u32 = 1000000000;
@@ -30,7 +30,7 @@ pub fn figures_hold(s: &[u8]) -> bool
     figures_fit(
         used_at(s),
         promised_at(s),
-        code_at(s),
+        state_at(s),
         word_at(s, 0),
         word_at(s, 4),
     )

@@ -5,7 +5,7 @@ ghost use mathlib.Core.Path.{_≡_};
 ghost use Prim.Native.Nat.{_+_, _<_};
 ghost use lib.ListN.{length, getD};
 ghost use Rattle.law.specs.Sound.{claimsOn};
-ghost use Rattle.claims.specs.Rows.{noClaim};
+ghost use Rattle.rules.specs.Rows.{noClaim};
 ghost use Rattle.rules.specs.Disks.{diskOf};
 ghost use Rattle.part.specs.Layout.{decode, decodes};
 ghost use Rattle.sound.specs.Tests.{ticketsDiffer};

@@ -11,12 +11,12 @@ ghost use Rattle.sound.specs.Tests.{figuresFit, waitingsFit};
 ghost use Rattle.sound.specs.Seen.{Unmet};
 use crate::alone::most_errors;
 use crate::alone::waiting_fits;
-use claims::before;
 use num::bits::bit_of;
 use num::word::word_at;
 use part::read::promised_at;
 use part::read::used_at;
 use part::read::waiting_at;
+use rules::row::before;
 
 // What the walk over the waiting claims has seen: whether they pass, and if so the tickets' bits met again.
 pub struct Waited {

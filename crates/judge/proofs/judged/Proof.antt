@@ -12,7 +12,7 @@ use mir.Facts.{toZ-ofZ}
 use mir.Syntax.{w32, w64}
 use Rattle.num.specs.Fits.{size-fits}
 use Rattle.num.specs.Metric.{size}
-use Rattle.claims.specs.RowLaws.{row-length}
+use Rattle.rules.specs.RowLaws.{row-length}
 use Rattle.law.specs.declared.Attr.{Attr}
 use Rattle.law.specs.declared.Claim.{Claim}
 use Rattle.law.specs.Types.{Core, Asked as LawAsked, refused, claimOf}
@@ -20,7 +20,7 @@ use Rattle.law.specs.Entries.{kindOf}
 use Rattle.law.specs.Granting.{tellBy, grantItem}
 use Rattle.law.specs.Calls.{asked, grantedAtOnce}
 use Rattle.law.specs.DiskType.{diskTable}
-use Rattle.lock.specs.Methods.{figuresOf}
+use Rattle.rules.specs.Methods.{figuresOf}
 use Rattle.judge.specs.Decisions.{DecidedIs}
 use Rattle.rules.specs.declared.calls.Judgement.{Judgement}
 use Rattle.rules.specs.declared.disk.Disk.{Disk}
@@ -90,7 +90,7 @@ wanted-is k = k .before .before .before .before .before .asked .ensures ∙ ap (
 number : (k : tie.After-checked) →
     k .checked .result ≡ firstNumber (firstRules (figuresIn (disk k)) (disk k .clock) (start k .args .q .now) (wanted k))
 number k =
-    number-by (disk k) (k .before .before .before .before .used-at .ensures) (k .before .before .before .promised-at .ensures) (k .before .before .code-at .ensures) (wanted-is k) (start k .args .q .now) (clock-is k)
+    number-by (disk k) (k .before .before .before .before .used-at .ensures) (k .before .before .before .promised-at .ensures) (k .before .before .state-at .ensures) (wanted-is k) (start k .args .q .now) (clock-is k)
     (k .checked .ensures)
 
 -- ---- the decision
@@ -130,7 +130,7 @@ tells : (t : tie.After-told) →
     t .told .result ≡ tellBy (figuresIn (disk (tests (t .before .before)))) (kindOf diskTable (wanted (tests (t .before .before))))
 tells t =
     let k = tests (t .before .before) in
-    tells-by (disk k) (k .before .before .before .before .used-at .ensures) (k .before .before .before .promised-at .ensures) (k .before .before .code-at .ensures) (wanted-is k) (t .told .ensures .0)
+    tells-by (disk k) (k .before .before .before .before .used-at .ensures) (k .before .before .before .promised-at .ensures) (k .before .before .state-at .ensures) (wanted-is k) (t .told .ensures .0)
 
 -- So many claims wait.
 line : (k : tie.After-decide) → length (take (disk (tests k) .waitings) (disk (tests k) .waiting)) ≡ k .before .word-at3 .result
@@ -150,8 +150,8 @@ used-at-requires c κs = search needs
 promised-at-requires : tie.Need-promised-at-requires
 promised-at-requires c κs = search needs
 
-code-at-requires : tie.Need-code-at-requires
-code-at-requires c κs = search needs
+state-at-requires : tie.Need-state-at-requires
+state-at-requires c κs = search needs
 
 word-at-requires-2 : tie.Need-word-at-requires-2
 word-at-requires-2 c κs = search needs
@@ -236,7 +236,7 @@ judged-spec =
     asked-requires
     used-at-requires
     promised-at-requires
-    code-at-requires
+    state-at-requires
     word-at-requires-2
     checked-requires
     unjudged-requires

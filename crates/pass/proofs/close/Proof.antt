@@ -8,11 +8,11 @@ use lib.ListN.{length, take}
 use Rattle.num.specs.Word.{putWord}
 use Rattle.num.specs.RunLaws.{mid-splice}
 use Rattle.law.specs.declared.Claim.{Claim}
-use Rattle.claims.specs.Rows.{RowIs}
+use Rattle.rules.specs.Rows.{RowIs}
 use Rattle.rules.specs.declared.disk.Disk.{Disk}
 use Rattle.part.specs.Layout.{slots, decode}
-use Rattle.place.specs.Holding.{Holds, withWaiting}
-use Rattle.place.specs.HoldingLaws.{holds-decode, holds-self, waiting-slots, waiting-kept, put-waiting-run, put-waitings}
+use Rattle.change.specs.Holding.{Holds, withWaiting}
+use Rattle.change.specs.HoldingLaws.{holds-decode, holds-self, waiting-slots, waiting-kept, put-waiting-run, put-waitings}
 use Rattle.pass.specs.Turns.{closedAt}
 use Rattle.pass.proofs.close.Statement.{statement}
 use Rattle.pass.proofs.close.Tie as tie

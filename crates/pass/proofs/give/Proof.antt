@@ -8,7 +8,7 @@ use Rattle.num.specs.Runs.{splice}
 use Rattle.law.specs.Entries.{kindAt, kindOf}
 use Rattle.law.specs.Granting.{tellBy, grantItem}
 use Rattle.law.specs.DiskType.{diskTable}
-use Rattle.lock.specs.Methods.{figuresOf}
+use Rattle.rules.specs.Methods.{figuresOf}
 use Rattle.rules.specs.declared.disk.Disk.{Disk}
 use Rattle.rules.specs.Disks.{figuresIn}
 use Rattle.part.specs.Layout.{decode}
@@ -25,7 +25,7 @@ disk k = decode (k .args .s .now)
 told-is : (t : tie.After-told) → let k = t .before .before .before .before .before .before .before .before .before in t .told .result ≡ tellBy (figuresIn (disk k)) (kindOf diskTable (k .args .c))
 told-is t =
     t .told .ensures .0
-    ∙ (λ j. tellBy (figuresOf (t .before .before .before .before .before .used-at .ensures j) (t .before .before .before .promised-at .ensures j) (t .before .code-at .ensures j)) (kindAt diskTable (t .before .before .before .before .before .before .before .before .before .args .c .method)))
+    ∙ (λ j. tellBy (figuresOf (t .before .before .before .before .before .used-at .ensures j) (t .before .before .before .promised-at .ensures j) (t .before .state-at .ensures j)) (kindAt diskTable (t .before .before .before .before .before .before .before .before .before .args .c .method)))
 
 sum-is : (n : tie.After-narrow) → let k = n .before .before .before .before .before .before .before .before .before .before in n .narrow .result ≡ tellBy (figuresIn (disk k)) (kindOf diskTable (k .args .c))
 sum-is n = n .narrow .ensures ∙ toZ-ofZ (record { sfits = n .before .told .ok }) ∙ told-is (n .before)
@@ -36,8 +36,8 @@ used-at-requires c κs = search needs
 promised-at-requires : tie.Need-promised-at-requires
 promised-at-requires c κs = c .before .before .before .before .before .pre .0
 
-code-at-requires : tie.Need-code-at-requires
-code-at-requires c κs = c .before .before .before .before .before .before .before .pre .0
+state-at-requires : tie.Need-state-at-requires
+state-at-requires c κs = c .before .before .before .before .before .before .before .pre .0
 
 told-requires : tie.Need-told-requires
 told-requires c κs = search needs
@@ -85,7 +85,7 @@ give-spec =
     (tie.spec
     used-at-requires
     promised-at-requires
-    code-at-requires
+    state-at-requires
     told-requires
     narrow-requires
     grant-requires

@@ -10,11 +10,11 @@ use borrow.Rule.Slice.PartMut.{putMid}
 use Rattle.num.specs.Runs.{splice}
 use Rattle.num.specs.RunLaws.{mid-splice}
 use Rattle.law.specs.declared.Claim.{Claim}
-use Rattle.claims.specs.Rows.{noClaim}
+use Rattle.rules.specs.Rows.{noClaim}
 use Rattle.rules.specs.declared.disk.Disk.{Disk}
 use Rattle.part.specs.Layout.{slots, decode}
-use Rattle.place.specs.Holding.{Holds, withWaiting}
-use Rattle.place.specs.HoldingLaws.{holds-decode, holds-self, waiting-slots, waiting-kept, put-waiting-run}
+use Rattle.change.specs.Holding.{Holds, withWaiting}
+use Rattle.change.specs.HoldingLaws.{holds-decode, holds-self, waiting-slots, waiting-kept, put-waiting-run}
 use Rattle.pass.specs.Turns.{tried, keptAt}
 use Rattle.pass.proofs.keep.Statement.{statement}
 use Rattle.pass.proofs.keep.Tie as tie

@@ -6,16 +6,16 @@ use native.Mathlib.Omega.{arith}
 use borrow.Author.Needs.{needs}
 use lib.ListN.{length}
 use Rattle.law.specs.Base.{sumOf}
-use Rattle.lock.specs.Masks.{methodsOf}
-use Rattle.lock.specs.Pairs.{addOf}
+use Rattle.rules.specs.Masks.{methodsOf}
+use Rattle.rules.specs.Pairs.{addOf}
 use Rattle.rules.specs.declared.disk.Disk.{Disk}
 use Rattle.rules.specs.Disks.{DiskIs}
 use Rattle.part.specs.Layout.{decode}
 use Rattle.part.specs.LayoutLaws.{decode-good}
 use Rattle.judge.specs.Decisions.{activesIn}
 use Rattle.judge.proofs.DecideLaws.{adds-most}
-use Rattle.place.specs.Holding.{Holds}
-use Rattle.place.specs.HoldingLaws.{decodes-holds, holds-part}
+use Rattle.change.specs.Holding.{Holds}
+use Rattle.change.specs.HoldingLaws.{decodes-holds, holds-part}
 use Rattle.pass.proofs.PassLaws.{Run, kept, turn-fits, turn-grows, turn-keeps, run-start, run-turn, run-disk, run-behind}
 use Rattle.pass.proofs.pass.Statement.{statement}
 use Rattle.pass.proofs.pass.Tie as tie

@@ -14,9 +14,9 @@ use Rattle.law.specs.Types.{mostError}
 use Rattle.law.specs.Granting.{total, granted, grantItem}
 use Rattle.law.specs.GrantLaws.{MayGrant, grant-says}
 use Rattle.law.specs.DiskType.{diskTable}
-use Rattle.claims.specs.RowLaws.{row-length}
-use Rattle.lock.specs.Masks.{neverMask}
-use Rattle.lock.proofs.MaskLaws.{one-never}
+use Rattle.rules.specs.RowLaws.{row-length}
+use Rattle.rules.specs.Masks.{neverMask}
+use Rattle.rules.proofs.MaskLaws.{one-never}
 use Rattle.judge.specs.Decisions.{activesIn, DecidedIs}
 use Rattle.judge.proofs.ReadLaws.{actives-read}
 use Rattle.judge.proofs.DecideLaws.{full-waits, never-waits}

@@ -7,8 +7,8 @@ use lib.ListN.{length, take, set}
 use lib.Seq.{take-set-le}
 use borrow.Author.Needs.{needs}
 use Rattle.law.specs.declared.Claim.{Claim}
-use Rattle.claims.specs.Rows.{noClaim, Row}
-use Rattle.claims.specs.RowLaws.{clear-last}
+use Rattle.rules.specs.Rows.{noClaim, Row}
+use Rattle.rules.specs.RowLaws.{clear-last}
 use Rattle.part.specs.Layout.{slots}
 use Rattle.slots.specs.Slots.{Kept}
 use Rattle.slots.proofs.clear_from.Statement.{statement}

@@ -6,8 +6,8 @@ use lib.ListN.{take, drop, getD}
 use borrow.Author.Tests.{eq-eqb, ne-eqb}
 use borrow.Author.Needs.{needs}
 use Rattle.law.specs.Calls.{hasTicket}
-use Rattle.claims.specs.Rows.{noClaim, placeOf}
-use Rattle.claims.specs.RowLaws.{first-here, first-on, first-end}
+use Rattle.rules.specs.Rows.{noClaim, placeOf}
+use Rattle.rules.specs.RowLaws.{first-here, first-on, first-end}
 use Rattle.part.specs.Layout.{slots}
 use Rattle.slots.specs.SlotsLaws.{ticket-at}
 use Rattle.slots.proofs.find_in.Statement.{statement}

@@ -6,8 +6,8 @@ use native.Mathlib.Omega.{arith}
 use lib.ListN.{take, drop, getD}
 use borrow.Author.Needs.{needs}
 use Rattle.law.specs.Calls.{before}
-use Rattle.claims.specs.Rows.{noClaim, firstOf}
-use Rattle.claims.specs.RowLaws.{first-here, first-on, first-end}
+use Rattle.rules.specs.Rows.{noClaim, firstOf}
+use Rattle.rules.specs.RowLaws.{first-here, first-on, first-end}
 use Rattle.part.specs.Layout.{slots}
 use Rattle.part.specs.SlotLaws.{slot-at}
 use Rattle.slots.proofs.place.Statement.{statement}

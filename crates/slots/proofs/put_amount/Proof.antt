@@ -4,7 +4,7 @@ use mathlib.Core.Path.{_∙_}
 use lib.ListN.{getD}
 use borrow.Author.Needs.{needs}
 use Rattle.num.specs.Word.{Bytes}
-use Rattle.claims.specs.Rows.{noClaim}
+use Rattle.rules.specs.Rows.{noClaim}
 use Rattle.part.specs.Layout.{slots}
 use Rattle.part.specs.SlotLaws.{slots-fit}
 use Rattle.slots.specs.SlotsLaws.{set-fits, amount-fits, put-amount-in, put-kept, put-slots}

@@ -7,9 +7,9 @@ use lib.ListN.{length, take, set}
 use borrow.Author.Needs.{needs}
 use Rattle.law.specs.declared.Claim.{Claim}
 use Rattle.law.specs.Calls.{queue}
-use Rattle.claims.specs.Rows.{Row, insertAt}
-use Rattle.claims.specs.PlaceLaws.{queue-place}
-use Rattle.claims.specs.RowLaws.{store-row, store-last, insert-turn, insert-end}
+use Rattle.rules.specs.Rows.{Row, insertAt}
+use Rattle.rules.specs.PlaceLaws.{queue-place}
+use Rattle.rules.specs.RowLaws.{store-row, store-last, insert-turn, insert-end}
 use Rattle.part.specs.Layout.{slots}
 use Rattle.part.specs.SlotLaws.{slot-at}
 use Rattle.slots.specs.Slots.{Kept}

@@ -11,9 +11,9 @@ use Rattle.law.specs.declared.Entry.{Entry}
 use Rattle.law.specs.Entries.{entryBy, kindAt, kindOf}
 use Rattle.law.specs.Granting.{putTold}
 use Rattle.law.specs.DiskType.{diskTable, diskEntries}
-use Rattle.claims.specs.Rows.{noClaim}
-use Rattle.lock.specs.Pairs.{letsBy}
-use Rattle.lock.proofs.EntryLaws.{found-at}
+use Rattle.rules.specs.Rows.{noClaim}
+use Rattle.rules.specs.Pairs.{letsBy}
+use Rattle.rules.proofs.EntryLaws.{found-at}
 use Rattle.part.specs.Layout.{slots}
 use Rattle.part.specs.SlotLaws.{length-slots, slot-at}
 use Rattle.slots.specs.Slots.{Kept, mapTo, raiseWith, raiseBy}

@@ -6,8 +6,8 @@ use native.Mathlib.Omega.{arith}
 use lib.ListN.{length, take, set}
 use borrow.Author.Needs.{needs}
 use Rattle.law.specs.declared.Claim.{Claim}
-use Rattle.claims.specs.Rows.{Row, removeAt}
-use Rattle.claims.specs.RowLaws.{store-row, remove-turn, remove-end, clear-last}
+use Rattle.rules.specs.Rows.{Row, removeAt}
+use Rattle.rules.specs.RowLaws.{store-row, remove-turn, remove-end, clear-last}
 use Rattle.part.specs.Layout.{slots}
 use Rattle.part.specs.SlotLaws.{slot-at}
 use Rattle.slots.specs.Slots.{Kept}

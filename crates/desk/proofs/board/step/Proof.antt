@@ -43,8 +43,8 @@ returns-3 c =
     record-refused (a .board .now) (a .r .now) (a .answer .now) (c .before .before .before .before .before .before .before .if1 .left) (c .before .before .before .before .before .before .if2 .left)
     (sym (c .before .before .before .before .before .well-formed .ensures) ∙ not-true _ (c .before .before .before .before .if3 .taken)) (step-refusing (a .board .now) R.Record (e .0) (e .1))
 
-accept-requires : tie.Need-accept-requires
-accept-requires c κs = (
+on-board-requires : tie.Need-on-board-requires
+on-board-requires c κs = (
   c .before .before .before .before .before .if1 .left,
   (formed-length (c .before .before .before .before .before .before .before .before .before .args .r .now) (sym (c .before .before .before .well-formed .ensures) ∙ not-false _ (c .before .before .if3 .left)), c .before .before .before .before .if2 .left),
 )
@@ -59,7 +59,7 @@ returns-4 : tie.Need-returns-4
 returns-4 c =
     let a = c .before .before .before .before .before .before .before .before .before .before .before .before .before .before .args in
     record-accepted (a .board .now) (a .r .now) (a .answer .now) (c .before .before .before .before .before .before .before .before .before .before .if1 .left) (c .before .before .before .before .before .before .before .before .before .if2 .left)
-    (sym (c .before .before .before .before .before .before .before .before .well-formed .ensures) ∙ not-false _ (c .before .before .before .before .before .before .before .if3 .left)) (c .before .before .before .before .accept .ensures)
+    (sym (c .before .before .before .before .before .before .before .before .well-formed .ensures) ∙ not-false _ (c .before .before .before .before .before .before .before .if3 .left)) (c .before .before .before .before .on-board .ensures)
 
 pub step-spec : {M : Type 1} → statement M
 step-spec =
@@ -73,7 +73,7 @@ step-spec =
     refuse-requires
     same-length
     returns-3
-    accept-requires
+    on-board-requires
     same-length-2
     same-length-3
     returns-4)

@@ -10,7 +10,7 @@ use mir.Syntax.{w32}
 use mir.Val.{toZ, ofZ}
 use Rattle.num.specs.Fits.{size-fits}
 use Rattle.num.specs.Metric.{size}
-use Rattle.claims.specs.RowLaws.{row-length}
+use Rattle.rules.specs.RowLaws.{row-length}
 use Rattle.law.specs.declared.Claim.{Claim}
 use Rattle.law.specs.Types.{claimOf, Asked as LawAsked, Outcome, refused, accepted}
 use Rattle.law.specs.Entries.{kindOf}
@@ -137,8 +137,8 @@ asked-requires c κs = search needs
 put-answer-requires : tie.Need-put-answer-requires
 put-answer-requires c κs = c .before .before .before .before .before .before .before .before .before .before .before .before .before .before .pre .1 .1 .1 .0
 
-accept-requires : tie.Need-accept-requires
-accept-requires c κs =
+grant-new-requires : tie.Need-grant-new-requires
+grant-new-requires c κs =
     let t = c .before .before .before .before .before .before .before in
     let s = c .before .before .before .before .before .before .before .before .before .before .before .before .before .before .before .before .before .before .before in
     rw (claim-is (c .before .before .before .before .before .before .before .before .before)) (s .pre .0, (s .pre .1 .0, (granted-takes t, told-back t ∙ told-law t)))
@@ -155,7 +155,7 @@ returns-2 c =
     let t = c .before .before .before .before .before .before .before .before .before .before in
     let i = grantItem diskTable (at (diskOf (d t)) (q t .now)) (asked (diskOf (d t)) (q t)) in
     step-accepted _ (grantedOf (diskOf (d t)) (q t .now) (asked (diskOf (d t)) (q t))) i [] (granted-outcome t) refl
-    (c .before .before .accept .ensures ∙ ap (λ (x : Claim). partFor (grantedOf (diskOf (d t)) (q t .now) x)) (claim-is (c .before .before .before .before .before .before .before .before .before .before .before .before)))
+    (c .before .before .grant-new .ensures ∙ ap (λ (x : Claim). partFor (grantedOf (diskOf (d t)) (q t .now) x)) (claim-is (c .before .before .before .before .before .before .before .before .before .before .before .before)))
     (shows t (c .before .before .before .before .before .before .before .put-answer .ensures))
 
 put-answer-requires-2 : tie.Need-put-answer-requires-2
@@ -208,7 +208,7 @@ serve-claim-spec =
     word-at-requires
     asked-requires
     put-answer-requires
-    accept-requires
+    grant-new-requires
     same-length-3
     same-length-4
     returns-2

@@ -10,18 +10,18 @@ use Rattle.law.specs.Types.{Disk as LawDisk}
 use Rattle.law.specs.Calls.{release}
 use Rattle.law.specs.Sound.{Sound}
 use Rattle.law.specs.DiskType.{diskTable}
-use Rattle.claims.specs.Rows.{placeOf}
-use Rattle.claims.specs.RowLaws.{row-length}
-use Rattle.lock.specs.Masks.{methodsOf}
-use Rattle.lock.specs.Pairs.{addOf}
+use Rattle.rules.specs.Rows.{placeOf}
+use Rattle.rules.specs.RowLaws.{row-length}
+use Rattle.rules.specs.Masks.{methodsOf}
+use Rattle.rules.specs.Pairs.{addOf}
 use Rattle.rules.specs.declared.disk.Disk.{Disk}
 use Rattle.rules.specs.Answers.{endedAt, leftAt}
 use Rattle.rules.specs.Disks.{Good}
 use Rattle.part.specs.Layout.{decode}
 use Rattle.part.specs.LayoutLaws.{decode-good}
 use Rattle.part.specs.Held.{held}
-use Rattle.place.specs.Holding.{Holds}
-use Rattle.place.specs.HoldingLaws.{decodes-holds, active-slots, waiting-slots}
+use Rattle.change.specs.Holding.{Holds}
+use Rattle.change.specs.HoldingLaws.{decodes-holds, active-slots, waiting-slots}
 use Rattle.answer.specs.Answers.{refusalOf}
 use Rattle.desk.specs.Step.{released}
 use Rattle.desk.proofs.ReleaseLaws.{release-early, release-active, sound-active, release-waiting, sound-waiting, release-lost, methods-there, actives-ended, actives-left}

@@ -9,7 +9,7 @@ use borrow.Author.Needs.{needs}
 use Rattle.num.specs.RunLaws.{splice-none}
 use Rattle.num.specs.Runs.{flat, splice}
 use Rattle.law.specs.declared.Claim.{Claim}
-use Rattle.claims.specs.Rows.{noClaim}
+use Rattle.rules.specs.Rows.{noClaim}
 use Rattle.part.specs.Layout.{claimWords, inSlots}
 use Rattle.part.specs.SlotLaws.{put-slot}
 use Rattle.part.proofs.write.put_claims.Statement.{statement}

@@ -3,7 +3,7 @@ use mathlib.Core.Path.{sym, _∙_}
 use borrow.Author.Needs.{needs}
 use Rattle.law.specs.Entries.{kindAt}
 use Rattle.law.specs.DiskType.{diskTable}
-use Rattle.lock.specs.Methods.{figuresOf}
+use Rattle.rules.specs.Methods.{figuresOf}
 use Rattle.rules.proofs.CallLaws.{own-reading, own-write}
 use Rattle.rules.proofs.fields.own_fits.Statement.{statement}
 use Rattle.rules.proofs.fields.own_fits.Tie as tie

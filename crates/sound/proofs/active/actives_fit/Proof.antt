@@ -16,10 +16,10 @@ use Rattle.law.specs.declared.Claim.{Claim}
 use Rattle.law.specs.Base.{everyOf, sumOf}
 use Rattle.law.specs.Lists.{never-true}
 use Rattle.law.specs.Types.{mostValue}
-use Rattle.claims.specs.Rows.{Row, noClaim}
-use Rattle.claims.specs.RowLaws.{left-on, left-end, sum-turn, sum-end, every-on, every-not, every-end}
-use Rattle.lock.specs.Masks.{methodsFrom, methodsOf, twiceFrom, twiceOf}
-use Rattle.lock.specs.Pairs.{addOf}
+use Rattle.rules.specs.Rows.{Row, noClaim}
+use Rattle.rules.specs.RowLaws.{left-on, left-end, sum-turn, sum-end, every-on, every-not, every-end}
+use Rattle.rules.specs.Masks.{methodsFrom, methodsOf, twiceFrom, twiceOf}
+use Rattle.rules.specs.Pairs.{addOf}
 use Rattle.rules.specs.Disks.{figuresIn, diskOf}
 use Rattle.part.specs.Layout.{decode, decodes}
 use Rattle.sound.specs.Tests.{activeFits, mostErrors, activeBy, eachActive, sumTest, activesFront, activesTests}

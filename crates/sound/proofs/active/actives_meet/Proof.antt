@@ -11,7 +11,7 @@ use lib.ListN.{length, drop, getD}
 use Rattle.law.specs.declared.Claim.{Claim}
 use Rattle.law.specs.Base.{everyOf, everyPair}
 use Rattle.law.specs.DiskType.{diskEntries}
-use Rattle.claims.specs.Rows.{noClaim}
+use Rattle.rules.specs.Rows.{noClaim}
 use Rattle.part.specs.Layout.{decode, decodes}
 use Rattle.sound.specs.Tests.{meets}
 use Rattle.sound.proofs.WalkLaws.{there, each-on, each-not, each-end, pairs-on, pairs-not, pairs-end}

@@ -3,7 +3,7 @@ use mathlib.Core.Path.{sym, _∙_}
 use borrow.Author.Needs.{needs}
 use borrow.Author.Tests.{lt-leb, le-leb, not-true, not-false}
 use Rattle.law.specs.Types.{a2}
-use Rattle.lock.specs.Methods.{figuresOf}
+use Rattle.rules.specs.Methods.{figuresOf}
 use Rattle.sound.specs.Tests.{figureFits, figuresFront, figuresTests, figuresFit}
 use Rattle.sound.proofs.TestLaws.{test-fails, test-last}
 use Rattle.sound.proofs.figures.figures_fit.Statement.{statement}

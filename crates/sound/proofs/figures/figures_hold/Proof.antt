@@ -1,7 +1,7 @@
 -- What is read is what the part decodes to.
 use borrow.Author.Needs.{needs}
 use mathlib.Core.Path.{_∙_}
-use Rattle.lock.specs.Methods.{figuresOf}
+use Rattle.rules.specs.Methods.{figuresOf}
 use Rattle.sound.specs.Tests.{figuresFit}
 use Rattle.sound.proofs.DiskLaws.{clock-read, next-read}
 use Rattle.sound.proofs.figures.figures_hold.Statement.{statement}
@@ -13,8 +13,8 @@ used-at-requires c κs = search needs
 promised-at-requires : tie.Need-promised-at-requires
 promised-at-requires c κs = search needs
 
-code-at-requires : tie.Need-code-at-requires
-code-at-requires c κs = search needs
+state-at-requires : tie.Need-state-at-requires
+state-at-requires c κs = search needs
 
 word-at-requires : tie.Need-word-at-requires
 word-at-requires c κs = search needs
@@ -31,7 +31,7 @@ returns c =
     let k = w .before in
     c .figures-fit .ensures
     ∙ (λ i.
-    figuresFit (figuresOf (k .before .before .used-at .ensures i) (k .before .promised-at .ensures i) (k .code-at .ensures i))
+    figuresFit (figuresOf (k .before .before .used-at .ensures i) (k .before .promised-at .ensures i) (k .state-at .ensures i))
     ((w .word-at .ensures ∙ clock-read _) i) ((c .before .word-at2 .ensures ∙ next-read _) i))
 
 pub figures-hold-spec : {M : Type 1} → statement M
@@ -40,7 +40,7 @@ figures-hold-spec =
     (tie.spec
     used-at-requires
     promised-at-requires
-    code-at-requires
+    state-at-requires
     word-at-requires
     word-at-requires-2
     figures-fit-requires

@@ -13,8 +13,8 @@ use Rattle.law.specs.Base.{everyOf}
 use Rattle.law.specs.Lists.{never-true}
 use Rattle.rules.specs.Disks.{figuresIn}
 use Rattle.part.specs.Layout.{decode}
-use Rattle.claims.specs.Rows.{Row, noClaim}
-use Rattle.claims.specs.RowLaws.{left-on, left-end, every-on, every-not, every-end}
+use Rattle.rules.specs.Rows.{Row, noClaim}
+use Rattle.rules.specs.RowLaws.{left-on, left-end, every-on, every-not, every-end}
 use Rattle.sound.specs.Tests.{waitingFits, mostErrors, waitingBy}
 use Rattle.sound.specs.Seen.{free}
 use Rattle.sound.proofs.WalkLaws.{there}

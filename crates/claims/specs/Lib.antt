@@ -1,3 +1,0 @@
-pub mod Rows
-pub mod PlaceLaws
-pub mod RowLaws

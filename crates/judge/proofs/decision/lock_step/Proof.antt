@@ -1,0 +1,253 @@
+-- Where the methods say that every entry is A, nothing is walked. Else the tests passed so far leave the answer to those left, and
+-- the sum with the costs left is the whole. What is read is what the part's disk has.
+use borrow.Author.Needs.{needs}
+use borrow.Author.Tests.{eqb-true, not-true, not-false}
+use Prim.Native.Nat.{ℕ, _+_, _*_, _-_, _≤_}
+use mathlib.Core.List.{List}
+use mathlib.Core.Path.{_≡_, refl, sym, ap, _∙_}
+use native.Mathlib.Omega.{arith}
+use lib.Bits.{bitAnd}
+use lib.Dec.{eqb}
+use lib.ListN.{take, drop, getD}
+use Rattle.law.specs.declared.Claim.{Claim}
+use Rattle.law.specs.Base.{everyOf, sumOf}
+use Rattle.law.specs.Lists.{never-true}
+use Rattle.law.specs.DiskType.{diskEntries}
+use Rattle.law.specs.Types.{Figures}
+use Rattle.rules.specs.Rows.{Row, noClaim}
+use Rattle.rules.specs.RowLaws.{sum-turn, sum-end, every-on, every-not, every-end}
+use Rattle.rules.specs.Masks.{methodsOf, otherMask}
+use Rattle.rules.specs.Methods.{figuresOf}
+use Rattle.rules.proofs.EntryLaws.{found-at}
+use Rattle.rules.specs.declared.disk.Disk.{Disk}
+use Rattle.rules.specs.Disks.{figuresIn}
+use Rattle.part.specs.Layout.{decode}
+use Rattle.judge.specs.Decisions.{letsOf, costOf, activesIn}
+use Rattle.judge.proofs.ReadLaws.{actives-read, same-row}
+use Rattle.judge.proofs.WalkLaws.{lets-at, cost-at, all-let, none-cost}
+use Rattle.judge.proofs.decision.lock_step.Statement.{statement}
+use Rattle.judge.proofs.decision.lock_step.Tie as tie
+
+abbrev Inv-loop : tie.InvT-loop
+Inv-loop s c methods table n used promised state m col reading raise sum₀ i₀ sum i =
+    (i ≤ n)
+    × (sum ≤ i * 4294967295)
+    × (everyOf (letsOf (figuresOf used promised state) c) (drop i (take n (decode s .active)))
+    ≡ everyOf (letsOf (figuresOf used promised state) c) (take n (decode s .active)))
+    × (sum + sumOf (costOf (figuresOf used promised state) c) (drop i (take n (decode s .active)))
+    ≡ sumOf (costOf (figuresOf used promised state) c) (take n (decode s .active)))
+
+abbrev μ-loop : tie.MeasureT-loop
+μ-loop s c methods table n used promised state m col reading raise sum₀ i₀ sum i = n - i
+
+others-requires : tie.Need-others-requires Inv-loop μ-loop
+others-requires c κs = tt
+
+share-requires : tie.Need-share-requires Inv-loop μ-loop
+share-requires c κs = tt
+
+-- No active claim has a say.
+returns : tie.Need-returns Inv-loop μ-loop
+returns c =
+    let k = c .before .before .before .before in
+    let d = decode (k .args .s .now) in
+    let q = k .args .c in
+    let none : bitAnd (methodsOf (activesIn d)) (otherMask (q .method)) ≡ 0 =
+    eqb-true (bitAnd (methodsOf (activesIn d)) (otherMask (q .method))) 0
+    (sym (ap (λ (m : ℕ). eqb (bitAnd m (otherMask (q .method))) 0) (k .pre .1 .1))
+    ∙ ap (λ (m : ℕ). eqb (bitAnd (k .args .methods) m) 0) (sym (c .before .before .others .ensures))
+    ∙ not-false (eqb (bitAnd (k .args .methods) (c .before .before .others .result)) 0) (sym (c .before .share .ensures) ∙ not-true (c .before .share .result) (c .if1 .taken))) in
+    (all-let (figuresIn d) q (activesIn d) none, ((λ e. none-cost (figuresIn d) q (activesIn d) none), omega arith))
+
+word-at-requires : tie.Need-word-at-requires Inv-loop μ-loop
+word-at-requires c κs = search needs
+
+cast-n : tie.Need-cast-n Inv-loop μ-loop
+cast-n c = search needs
+
+used-at-requires : tie.Need-used-at-requires Inv-loop μ-loop
+used-at-requires c κs = search needs
+
+promised-at-requires : tie.Need-promised-at-requires Inv-loop μ-loop
+promised-at-requires c κs = search needs
+
+state-at-requires : tie.Need-state-at-requires Inv-loop μ-loop
+state-at-requires c κs = search needs
+
+index-of-requires : tie.Need-index-of-requires Inv-loop μ-loop
+index-of-requires c κs = tt
+
+is-reading-requires : tie.Need-is-reading-requires Inv-loop μ-loop
+is-reading-requires c κs = tt
+
+raise-of-requires : tie.Need-raise-of-requires Inv-loop μ-loop
+raise-of-requires c κs = tt
+
+-- ---- what has been read before the walk
+
+abbrev Read : Type 0
+Read = tie.After-raise-of Inv-loop μ-loop
+
+abbrev start : Read → tie.Start Inv-loop μ-loop
+start r = r .before .before .before .before .before .before .before .before .before .before .before
+
+abbrev disk : Read → Disk
+disk r = decode (start r .args .s .now)
+
+abbrev count : Read → ℕ
+count r = r .before .before .before .before .before .before .word-at .result
+
+abbrev figures : Read → Figures
+figures r = figuresOf (r .before .before .before .before .before .used-at .result) (r .before .before .before .before .promised-at .result) (r .before .before .before .state-at .result)
+
+abbrev actives : Read → List Claim
+actives r = take (count r) (disk r .active)
+
+count-is : (r : Read) → count r ≡ disk r .actives
+count-is r = r .before .before .before .before .before .before .word-at .ensures ∙ actives-read (start r .args .s .now)
+
+row : (r : Read) → Row (disk r .active) (count r)
+row r = same-row (count-is r) (start r .pre .1 .0 .active)
+
+-- A test and a sum by what has been read are those by the disk.
+by-disk : {X : Type 0} (r : Read) (f : Figures → List Claim → X) → f (figures r) (actives r) ≡ f (figuresIn (disk r)) (activesIn (disk r))
+by-disk r f j =
+    f (figuresOf (r .before .before .before .before .before .used-at .ensures j) (r .before .before .before .before .promised-at .ensures j) (r .before .before .before .state-at .ensures j))
+    (take (count-is r j) (disk r .active))
+
+loop-holds : tie.Need-loop-holds Inv-loop μ-loop
+loop-holds c = (omega arith, omega arith, refl, omega arith)
+
+active-at-requires : tie.Need-active-at-requires Inv-loop μ-loop
+active-at-requires c κs = (start (c .before .before) .pre .0, omega (arith, c .loop-test .taken, row (c .before .before) .few))
+
+index-of-requires-2 : tie.Need-index-of-requires-2 Inv-loop μ-loop
+index-of-requires-2 c κs = tt
+
+mul-found : tie.Need-mul-found Inv-loop μ-loop
+mul-found c = omega (arith, c .index-of2 .ensures .1)
+
+index-1-found : tie.Need-index-1-found Inv-loop μ-loop
+index-1-found c = c .index-of2 .ensures .1
+
+index-2-found : tie.Need-index-2-found Inv-loop μ-loop
+index-2-found c = c .before .before .before .before .before .before .index-of .ensures .1
+
+entry-requires : tie.Need-entry-requires Inv-loop μ-loop
+unfolding diskEntries
+entry-requires c κs =
+    let k = c .before in
+    let r = k .before .before .before .before in
+    found-at (k .before .active-at .result .method) (start r .args .c .method)
+    (k .index-of2 .result) (r .before .before .index-of .result) (k .index-of2 .ensures .0) (r .before .before .index-of .ensures .0)
+
+lets-requires : tie.Need-lets-requires Inv-loop μ-loop
+lets-requires c κs = c .before .before .before .before .before .before .raise-of .ensures .1
+
+cost-requires : tie.Need-cost-requires Inv-loop μ-loop
+cost-requires c κs = tt
+
+add-sum : tie.Need-add-sum Inv-loop μ-loop
+add-sum c =
+    let l = c .before .before .before .before .before .before .before .before in
+    record { fits = omega (arith, l .loop .inv .0, l .loop .inv .1, row (l .before) .few, c .cost .ensures .1) }
+
+add-i : tie.Need-add-i Inv-loop μ-loop
+add-i c =
+    let t = c .before .before .before .before .before .before .before in
+    record { fits = omega (arith, t .loop-test .taken, row (t .before .before) .few) }
+
+loop-less : tie.Need-loop-less Inv-loop μ-loop
+loop-less c = search needs
+
+lets-there : (l : tie.After-lets Inv-loop μ-loop) →
+    let w = l .before .before .before .before .before .before in
+    letsOf (figures (w .before)) (start (w .before) .args .c) (getD (disk (w .before) .active) (w .loop .i) noClaim) ≡ l .lets .result
+lets-there l =
+    let r = l .before .before .before .before .before .before .before in
+    let c = start r .args .c in
+    let x = l .before .before .before .before .active-at in
+    sym (ap (letsOf (figures r) c) (x .ensures))
+    ∙ sym (lets-at (figures r) c (x .result) (l .before .entry .ensures) (r .before .is-reading .ensures) (r .raise-of .ensures .0) (l .lets .ensures))
+
+cost-there : (k : tie.After-cost Inv-loop μ-loop) →
+    let w = k .before .before .before .before .before .before .before .before in
+    k .cost .result ≡ costOf (figures (w .before)) (start (w .before) .args .c) (getD (disk (w .before) .active) (w .loop .i) noClaim)
+cost-there k =
+    let r = k .before .before .before .before .before .before .before .before .before in
+    let c = start r .args .c in
+    let x = k .before .before .before .before .before .before .active-at in
+    cost-at (figures r) c (x .result) (k .before .before .before .entry .ensures) (r .before .is-reading .ensures) (k .cost .ensures .0)
+    ∙ ap (costOf (figures r) c) (x .ensures)
+
+loop-again : tie.Need-loop-again Inv-loop μ-loop
+loop-again c =
+    let l = c .before .before in
+    let t = l .before .before .before .before .before in
+    let w = t .before in
+    let r = w .before in
+    let q = start r .args .c in (
+      omega (arith, t .loop-test .taken),
+      omega (arith, w .loop .inv .1, c .cost .ensures .1),
+      every-on (row r) (letsOf (figures r) q) (w .loop .i) (t .loop-test .taken) (lets-there l ∙ c .before .if2 .taken) ∙ w .loop .inv .2,
+      omega (arith, w .loop .inv .3, cost-there c, sum-turn (row r) (costOf (figures r) q) (w .loop .i) (t .loop-test .taken)),
+    )
+
+returns-2 : tie.Need-returns-2 Inv-loop μ-loop
+returns-2 c =
+    let l = c .before in
+    let t = l .before .before .before .before .before in
+    let w = t .before in
+    let r = w .before in
+    let q = start r .args .c in (
+      every-not (row r) (letsOf (figures r) q) (w .loop .i) (t .loop-test .taken) (lets-there l ∙ c .if2 .left)
+          ∙ w .loop .inv .2
+          ∙ by-disk r (λ f ws. everyOf (letsOf f q) ws),
+      ((λ e. never-true (0 ≡ sumOf (costOf (figuresIn (disk r)) q) (activesIn (disk r))) e), omega arith),
+    )
+
+returns-3 : tie.Need-returns-3 Inv-loop μ-loop
+returns-3 c =
+    let w = c .before in
+    let r = w .before in
+    let q = start r .args .c in
+    let sums : w .loop .sum ≡ sumOf (costOf (figures r) q) (actives r) =
+    omega (arith, w .loop .inv .3, sum-end (row r) (costOf (figures r) q) (w .loop .i) (c .loop-test .left)) in (
+      every-end (row r) (letsOf (figures r) q) (w .loop .i) (c .loop-test .left)
+          ∙ w .loop .inv .2
+          ∙ by-disk r (λ f ws. everyOf (letsOf f q) ws),
+      ((λ e. sums ∙ by-disk r (λ f ws. sumOf (costOf f q) ws)), omega (arith, w .loop .inv .0, w .loop .inv .1, row r .few)),
+    )
+
+pub lock-step-spec : {M : Type 1} → statement M
+lock-step-spec =
+    tie.close
+    (tie.spec
+    Inv-loop
+    μ-loop
+    others-requires
+    share-requires
+    returns
+    word-at-requires
+    cast-n
+    used-at-requires
+    promised-at-requires
+    state-at-requires
+    index-of-requires
+    is-reading-requires
+    raise-of-requires
+    loop-holds
+    active-at-requires
+    index-of-requires-2
+    mul-found
+    index-1-found
+    index-2-found
+    entry-requires
+    lets-requires
+    cost-requires
+    add-sum
+    add-i
+    loop-less
+    loop-again
+    returns-2
+    returns-3)

@@ -1,3 +1,0 @@
-pub mod Methods
-pub mod Pairs
-pub mod Masks

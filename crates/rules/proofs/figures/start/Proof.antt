@@ -1,0 +1,71 @@
+-- Each answer is the rule at its kind, and three words make no more than 12884901885.
+use mathlib.Core.Path.{sym, _∙_}
+use borrow.Author.Needs.{needs}
+use Rattle.law.specs.Entries.{kindAt}
+use Rattle.law.specs.DiskType.{diskTable}
+use Rattle.rules.specs.Methods.{figuresOf}
+use Rattle.rules.proofs.RuleLaws.{start-reads, start-adds, start-sets}
+use Rattle.rules.proofs.figures.start.Statement.{statement}
+use Rattle.rules.proofs.figures.start.Tie as tie
+
+is-reading-requires : tie.Need-is-reading-requires
+is-reading-requires c κs = search needs
+
+carried-requires : tie.Need-carried-requires
+carried-requires c κs = search needs
+
+returns : tie.Need-returns
+returns c =
+    let r = c .before .before in
+    let a = r .before .args in
+    let f = figuresOf (a .used) (a .promised) (a .state) in
+    let k = kindAt diskTable (a .m) in
+    let e = start-reads f k (a .error) (sym (r .is-reading .ensures) ∙ c .before .if1 .taken) in
+    (c .carried .ensures .0 ∙ sym e, c .carried .ensures .1)
+
+is-add-requires : tie.Need-is-add-requires
+is-add-requires c κs = search needs
+
+written-requires : tie.Need-written-requires
+written-requires c κs = search needs
+
+cast-result : tie.Need-cast-result
+cast-result c = search needs
+
+add-result : tie.Need-add-result
+add-result c = search needs
+
+returns-2 : tie.Need-returns-2
+returns-2 c =
+    let w = c .before in
+    let d = w .before .before in
+    let a = d .before .before .before .args in
+    let f = figuresOf (a .used) (a .promised) (a .state) in
+    let k = kindAt diskTable (a .m) in
+    let e = start-adds f k (a .error) (sym (d .is-add .ensures) ∙ w .before .if2 .taken) in
+    (rw (w .written .ensures) (sym e), search needs)
+
+returns-3 : tie.Need-returns-3
+returns-3 c =
+    let d = c .before in
+    let r = d .before .before in
+    let a = r .before .args in
+    let f = figuresOf (a .used) (a .promised) (a .state) in
+    let k = kindAt diskTable (a .m) in
+    let reading = sym (r .is-reading .ensures) ∙ d .before .if1 .left in
+    let add = sym (d .is-add .ensures) ∙ c .if2 .left in
+    (sym (start-sets f k (a .error) reading add), search needs)
+
+pub start-spec : {M : Type 1} → statement M
+start-spec =
+    tie.close
+    (tie.spec
+    is-reading-requires
+    carried-requires
+    returns
+    is-add-requires
+    written-requires
+    cast-result
+    add-result
+    returns-2
+    returns-3)

@@ -1,0 +1,24 @@
+-- An error and a gap of 32 bits.
+use borrow.Author.Needs.{needs}
+use native.Mathlib.Omega.{arith}
+use mir.Facts.{toZ-ofZ}
+use Rattle.rules.proofs.pair.raise_of.Statement.{statement}
+use Rattle.rules.proofs.pair.raise_of.Tie as tie
+
+cast-result : tie.Need-cast-result
+cast-result c = search needs
+
+gap-of-requires : tie.Need-gap-of-requires
+gap-of-requires c κs = search needs
+
+add-result : tie.Need-add-result
+add-result c = search needs
+
+returns : tie.Need-returns
+returns c =
+    let e =
+    rw (toZ-ofZ (record { sfits = c .before .struct-told .given .1 .1 .1 .1 .1 .0 .1 })) at (c .gap-of .ensures .0) in
+    (omega (arith, e), omega (arith, c .gap-of .ensures .1))
+
+pub raise-of-spec : {M : Type 1} → statement M
+raise-of-spec = tie.close (tie.spec cast-result gap-of-requires add-result returns)
