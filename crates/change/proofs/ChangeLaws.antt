@@ -16,7 +16,7 @@ use Rattle.law.specs.declared.Entry.the-variants.{A, N, D, G}
 use Rattle.law.specs.Lists.{never-true, all-at, all-left}
 use Rattle.law.specs.Types.{a1, Kind, sets, adds, reads, Figures, Core, Disk as LawDisk}
 use Rattle.law.specs.Entries.{isNever, kindAt, kindOf, entry}
-use Rattle.law.specs.Granting.{raisesBy, noteBy, tellBy, amountBy, putTold, gap, total, stays, raised, grant}
+use Rattle.law.specs.Granting.{raisesBy, noteBy, toldBy, amountBy, putTold, gap, total, stays, raised, grant}
 use Rattle.law.specs.GrantLaws.{NotNever, MayGrant}
 use Rattle.law.specs.Calls.{landBy}
 use Rattle.law.specs.Sound.{Passes, Sound}
@@ -139,7 +139,7 @@ read-amount (sets a) n h = never-true _ h
 read-amount (adds a) n h = never-true _ h
 read-amount (reads m) n h = refl
 
-write-told : (c : Claim) (f : Figures) (k : Kind) (n : ℕ) → isReading k ≡ false → putTold c (tellBy f k) (amountBy k n) ≡ putTold c (pos 0) 0
+write-told : (c : Claim) (f : Figures) (k : Kind) (n : ℕ) → isReading k ≡ false → putTold c (toldBy f k) (amountBy k n) ≡ putTold c (pos 0) 0
 write-told c f (sets a) n h = refl
 write-told c f (adds a) n h = refl
 write-told c f (reads m) n h = never-true _ (sym h)
@@ -151,12 +151,12 @@ diskWith d f l = record { core = coreOf f (d .clock) l; waiting = take (d .waiti
 module _ (d : Disk) (c : Claim) (good : Good d) (may : MayGrant diskTable (coreIn d) c) where
   -- A granted reading is told the present sum, and keeps its total.
   pub grant-reading : isReading (kindOf diskTable c) ≡ true →
-      DiskIs (withLast d (d .actives) (putTold c (tellBy (figuresIn d) (kindOf diskTable c)) (total diskTable (coreIn d) c)))
+      DiskIs (withLast d (d .actives) (putTold c (toldBy (figuresIn d) (kindOf diskTable c)) (total diskTable (coreIn d) c)))
       (grantOf (diskOf d) c)
   unfolding grant
   grant-reading r =
       let k = kindOf diskTable c in
-      let g = putTold c (tellBy (figuresIn d) k) (total diskTable (coreIn d) c) in
+      let g = putTold c (toldBy (figuresIn d) k) (total diskTable (coreIn d) c) in
       let w = store-last (good .active) g (grant-place d c good may) in
       record {
         good = record { active = w .row; waiting = good .waiting };

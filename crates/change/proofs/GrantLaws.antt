@@ -13,14 +13,14 @@ use Rattle.law.specs.declared.Attr.{Attr}
 use Rattle.law.specs.declared.Claim.{Claim}
 use Rattle.law.specs.Types.{Figures, sets, a2}
 use Rattle.law.specs.Entries.{kindAt, kindOf}
-use Rattle.law.specs.Granting.{limitBy, tellBy, noteBy, withAmount, putTold, total}
+use Rattle.law.specs.Granting.{limitBy, toldBy, noteBy, withAmount, putTold, total}
 use Rattle.law.specs.GrantLaws.{MayGrant}
 use Rattle.law.specs.DiskType.{diskTable}
 use Rattle.rules.specs.Methods.{isReading}
 use Rattle.rules.specs.declared.disk.Disk.{Disk}
 use Rattle.rules.specs.Disks.{figuresIn, coreIn, diskOf, Good, DiskIs, grantOf}
 use Rattle.part.specs.Layout.{slots, headWords, decode, AttrFits}
-use Rattle.slots.specs.Slots.{Kept}
+use Rattle.slots.specs.Slots.{Canonical}
 use Rattle.change.specs.Holding.{Holds, NoteFits, numbered, withFigures, withActive, withLast, noted, raisedOf}
 use Rattle.change.specs.HoldingLaws.{holds-decode, holds-self, put-active-run, put-clock, put-next, put-actives, put-figure}
 use Rattle.change.proofs.ChangeLaws.{grant-reading, grant-write}
@@ -80,7 +80,7 @@ module _ {s : List ℕ} {d : Disk} (h : Holds s d) (m total : ℕ) (l : total < 
 
 -- ---- the claim behind the active ones
 
-pub last-holds : {s : List ℕ} {d : Disk} → Holds s d → {n : ℕ} (c : Claim) → n < 8 → {row : List ℕ} → Kept row → slots 8 row ≡ set (d .active) n c →
+pub last-holds : {s : List ℕ} {d : Disk} → Holds s d → {n : ℕ} (c : Claim) → n < 8 → {row : List ℕ} → Canonical row → slots 8 row ≡ set (d .active) n c →
     Holds (putWord (splice s 64 row) 8 (n + 1)) (withLast d n c)
 last-holds {s} {d} h {n} c l {row} kept e =
     subst (λ (cs : List Claim). Holds (putWord (splice s 64 row) 8 (n + 1)) (numbered (withActive d cs) (d .clock) (d .next) (n + 1) (d .waitings))) e
@@ -106,7 +106,7 @@ module _ (d : Disk) (c : Claim) (good : Good d) (may : MayGrant diskTable (coreI
 
   -- A reading is put behind the active claims, with what it is told and its total.
   pub read-grants : isReading (kindAt diskTable (c .method)) ≡ true → {n sum : ℕ} {z : ℤ} → n ≡ d .actives →
-      z ≡ tellBy (figuresIn d) (kindOf diskTable c) → sum ≡ total diskTable (coreIn d) c → {s : List ℕ} →
+      z ≡ toldBy (figuresIn d) (kindOf diskTable c) → sum ≡ total diskTable (coreIn d) c → {s : List ℕ} →
       Holds s (withLast d n (putTold c z sum)) → Grants s d c
   read-grants r p q e h = grants d c h (rw (p, q, e) (grant-reading d c good may r))
 

@@ -20,7 +20,7 @@ use Rattle.rules.specs.Answers.{endedAt, leftAt, waitingOf}
 use Rattle.rules.specs.Disks.{figuresIn, diskOf, Good}
 use Rattle.part.specs.Held.{partFor}
 use Rattle.part.specs.Layout.{slots, headWords, AttrFits, StateFits}
-use Rattle.slots.specs.Slots.{Kept}
+use Rattle.slots.specs.Slots.{Canonical}
 use Rattle.change.specs.Holding.{Holds, withFigures, landOf}
 use Rattle.change.specs.HoldingLaws.{holds-part, put-active-run, put-waiting-run, put-clock, put-next, put-actives, put-waitings, put-figure}
 use Rattle.change.proofs.ChangeLaws.{land-at, land-none}
@@ -83,7 +83,7 @@ land-leaves {s} {d} h w m =
 
 module _ {s : List ℕ} {d : Disk} (good : Good d) (second at : ℕ) (l : second < 2 ^ 32) where
   -- The active claim at a place ended: what has landed, the other active claims, the second and their number.
-  pub end-part : at < d .actives → d .actives < 2 ^ 32 → Holds s (landOf d (getD (d .active) at noClaim)) → {row : List ℕ} → Kept row →
+  pub end-part : at < d .actives → d .actives < 2 ^ 32 → Holds s (landOf d (getD (d .active) at noClaim)) → {row : List ℕ} → Canonical row →
       RowIs (slots 8 row) (d .actives - 1) (removeAt at (take (d .actives) (d .active))) →
       putWord (putWord (splice s 64 row) 0 second) 8 (d .actives - 1) ≡ partFor (endedAt (diskOf d) second at)
   unfolding landOf endedAt
@@ -95,7 +95,7 @@ module _ {s : List ℕ} {d : Disk} (good : Good d) (second at : ℕ) (l : second
       })
 
   -- The waiting claim at a place gone: the others, the second and their number.
-  pub left-part : at < d .waitings → d .waitings < 2 ^ 32 → Holds s d → {row : List ℕ} → Kept row →
+  pub left-part : at < d .waitings → d .waitings < 2 ^ 32 → Holds s d → {row : List ℕ} → Canonical row →
       RowIs (slots 8 row) (d .waitings - 1) (removeAt at (take (d .waitings) (d .waiting))) →
       putWord (putWord (splice s 416 row) 0 second) 12 (d .waitings - 1) ≡ partFor (leftAt (diskOf d) second at)
   unfolding leftAt
@@ -105,7 +105,7 @@ module _ {s : List ℕ} {d : Disk} (good : Good d) (second at : ℕ) (l : second
 
 -- A claim that waits: all that wait, the second, their number and the next ticket.
 module _ {s : List ℕ} {d : Disk} (good : Good d) (second : ℕ) (c : Claim) (l : second < 2 ^ 32) where
-  pub wait-part : d .waitings < 8 → c .ticket ≤ 999_999 → Holds s d → {row : List ℕ} → Kept row →
+  pub wait-part : d .waitings < 8 → c .ticket ≤ 999_999 → Holds s d → {row : List ℕ} → Canonical row →
       RowIs (slots 8 row) (d .waitings + 1) (queue c (take (d .waitings) (d .waiting))) →
       putWord (putWord (putWord (splice s 416 row) 0 second) 12 (d .waitings + 1)) 4 (c .ticket + 1) ≡ partFor (waitingOf (diskOf d) second c)
   unfolding waitingOf

@@ -18,7 +18,7 @@ use Rattle.part.specs.Layout.{slots, inSlots, headWords, decode, encode, decode
 use Rattle.part.specs.Held.{partFor}
 use Rattle.part.specs.SlotLaws.{length-slots, length-in-slots, bytes-slots, slots-fit}
 use Rattle.part.specs.LayoutLaws.{length-head, partWith, put-head-word, put-active, decode-encode, encode-decode, decode-fits}
-use Rattle.slots.specs.Slots.{Kept}
+use Rattle.slots.specs.Slots.{Canonical}
 use Rattle.slots.specs.SlotsLaws.{slots-in, kept-in}
 use Rattle.change.specs.Holding.{Holds, withFigures, withActive, withWaiting, numbered}
 
@@ -83,17 +83,17 @@ module _ {s : List ℕ} {d : Disk} (h : Holds s d) where
   pub active-slots : slots 8 (take 352 (drop 64 s)) ≡ d .active
   active-slots = ap (slots 8) active-run ∙ slots-in (d .active) (h .fits .active)
 
-  pub active-kept : Kept (take 352 (drop 64 s))
+  pub active-kept : Canonical (take 352 (drop 64 s))
   active-kept = rw active-run (kept-in (d .active) (h .fits .active))
 
   pub waiting-slots : slots 8 (take 352 (drop 416 s)) ≡ d .waiting
   waiting-slots = ap (slots 8) waiting-run ∙ slots-in (d .waiting) (h .fits .waiting)
 
-  pub waiting-kept : Kept (take 352 (drop 416 s))
+  pub waiting-kept : Canonical (take 352 (drop 416 s))
   waiting-kept = rw waiting-run (kept-in (d .waiting) (h .fits .waiting))
 
   -- Eight slots put into it are its claims.
-  module _ {row : List ℕ} (kept : Kept row) where
+  module _ {row : List ℕ} (kept : Canonical row) where
     row-fits : ClaimsFit (slots 8 row)
     row-fits = record { room = length-slots 8 row; each = slots-fit 8 row (rw kept at (bytes-slots (slots 8 row))) }
 

@@ -6,7 +6,7 @@ ghost use mathlib.Core.Path.{_≡_};
 ghost use Prim.Native.Nat.{_<_};
 ghost use lib.ListN.{length};
 ghost use Rattle.law.specs.Entries.{kindAt, kindOf};
-ghost use Rattle.law.specs.Granting.{tellBy, total as lawTotal};
+ghost use Rattle.law.specs.Granting.{toldBy, total as lawTotal};
 ghost use Rattle.law.specs.GrantLaws.{MayGrant};
 ghost use Rattle.law.specs.DiskType.{diskTable};
 ghost use Rattle.rules.specs.Methods.{isReading};
@@ -74,7 +74,7 @@ pub fn grant(s: &mut [u8], c: Claim, told: i32, total: u32)
     requires { ⌜ Holds (now s) (decode (now s)) ⌝ }
     requires { ⌜ Good (decode (now s)) ⌝ }
     requires { ⌜ MayGrant diskTable (coreIn (decode (now s))) c ⌝ }
-    requires { ⌜ told ≡ tellBy (figuresIn (decode (now s))) (kindOf diskTable c) ⌝ }
+    requires { ⌜ told ≡ toldBy (figuresIn (decode (now s))) (kindOf diskTable c) ⌝ }
     requires { ⌜ total ≡ lawTotal diskTable (coreIn (decode (now s))) c ⌝ }
     ensures { λ _. ⌜ Holds (now (s .exit)) (decode (now (s .exit))) ⌝ }
     ensures { λ _. ⌜ DiskIs (decode (now (s .exit))) (grantOf (diskOf (decode (now (s .entry)))) c) ⌝ }
@@ -99,7 +99,7 @@ pub fn grant_new(s: &mut [u8], second: u32, c: Claim, told: i32, total: u32)
     requires { ⌜ length (now s) ≡ 768 ⌝ }
     requires { ⌜ decodes (now s) ≡ true ⌝ }
     requires { ⌜ TakesGrant (decode (now s)) second c total ⌝ }
-    requires { ⌜ told ≡ tellBy (figuresIn (decode (now s))) (kindOf diskTable c) ⌝ }
+    requires { ⌜ told ≡ toldBy (figuresIn (decode (now s))) (kindOf diskTable c) ⌝ }
     ensures { λ _. ⌜ now (s .exit) ≡ partFor (grantedOf (held (now (s .entry))) second c) ⌝ }
 {
     put_numbers(s, second, 4, c.ticket + 1);

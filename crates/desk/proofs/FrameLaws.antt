@@ -22,10 +22,10 @@ use Rattle.answer.specs.declared.Answer.the-variants as A
 use Rattle.answer.specs.declared.Refusal.{Refusal}
 use Rattle.answer.specs.declared.Refusal.the-variants as R
 use Rattle.answer.specs.Answers.{numberOf, refusalOf, answerBytes}
-use Rattle.desk.specs.Record.{kindOf, diskOf, nowOf, callOf, usedLimit, promisedLimit, wellFormed}
+use Rattle.desk.specs.Record.{kindByte, diskNumber, nowOf, callOf, usedLimit, promisedLimit, wellFormed}
 use Rattle.desk.specs.Board.{disks, partOf, withPart}
 use Rattle.part.specs.Held.{partFor}
-use Rattle.desk.specs.Step.{answerOf, refusing, serveOf, opening, onDisk, onBoard, tellOf, stepOf, Stepped, stepped, written}
+use Rattle.desk.specs.Step.{answerOf, refusing, serveOf, opening, onDisk, onBoard, effectOf, stepOf, Stepped, stepped, written}
 
 -- ---- a lent part
 
@@ -71,31 +71,31 @@ module _ (b : List ℕ) (d : ℕ) where
 -- ---- a well-formed record
 
 module _ (b r : List ℕ) where
-  pub disk-unknown : {s : Stepped} → disks ≤ diskOf r → s ≡ written (refusing b R.Disk) → s ≡ written (onBoard b r)
+  pub disk-unknown : {s : Stepped} → disks ≤ diskNumber r → s ≡ written (refusing b R.Disk) → s ≡ written (onBoard b r)
   unfolding onBoard
-  disk-unknown h e = rw (le-leb disks (diskOf r) h) e
+  disk-unknown h e = rw (le-leb disks (diskNumber r) h) e
 
-  module _ (known : diskOf r < disks) where
-    on-disk : onDisk b r (diskOf r) ≡ onBoard b r
+  module _ (known : diskNumber r < disks) where
+    on-disk : onDisk b r (diskNumber r) ≡ onBoard b r
     unfolding onBoard
-    on-disk = rw (lt-leb disks (diskOf r) known)
+    on-disk = rw (lt-leb disks (diskNumber r) known)
 
-    pub open-again : {s : Stepped} → kindOf r ≡ 1 → openAt b (diskOf r) ≡ true → s ≡ written (refusing b R.Open) → s ≡ written (onBoard b r)
-    open-again k o e = rw (← on-disk, eq-eqb (kindOf r) 1 k, o) e
+    pub open-again : {s : Stepped} → kindByte r ≡ 1 → openAt b (diskNumber r) ≡ true → s ≡ written (refusing b R.Open) → s ≡ written (onBoard b r)
+    open-again k o e = rw (← on-disk, eq-eqb (kindByte r) 1 k, o) e
 
-    pub open-new : {s : Stepped} → kindOf r ≡ 1 → openAt b (diskOf r) ≡ false →
-        s ≡ written (opening b (diskOf r) (openDisk (nowOf r) (usedLimit r) (promisedLimit r))) → s ≡ written (onBoard b r)
-    open-new k o e = rw (← on-disk, eq-eqb (kindOf r) 1 k, o) e
+    pub open-new : {s : Stepped} → kindByte r ≡ 1 → openAt b (diskNumber r) ≡ false →
+        s ≡ written (opening b (diskNumber r) (openDisk (nowOf r) (usedLimit r) (promisedLimit r))) → s ≡ written (onBoard b r)
+    open-new k o e = rw (← on-disk, eq-eqb (kindByte r) 1 k, o) e
 
-    pub not-open : {s : Stepped} → (kindOf r ≡ 1 → ⊥) → openAt b (diskOf r) ≡ false → s ≡ written (refusing b R.Closed) → s ≡ written (onBoard b r)
-    not-open k o e = rw (← on-disk, ne-eqb (kindOf r) 1 k, o) e
+    pub not-open : {s : Stepped} → (kindByte r ≡ 1 → ⊥) → openAt b (diskNumber r) ≡ false → s ≡ written (refusing b R.Closed) → s ≡ written (onBoard b r)
+    not-open k o e = rw (← on-disk, ne-eqb (kindByte r) 1 k, o) e
 
-    pub on-part : {n : ℕ} {p a : List ℕ} → (kindOf r ≡ 1 → ⊥) → openAt b (diskOf r) ≡ true →
-        stepped n p a ≡ written (serveOf (partOf b (diskOf r)) (callOf r)) →
-        stepped n (withPart b (diskOf r) p) a ≡ written (onBoard b r)
+    pub on-part : {n : ℕ} {p a : List ℕ} → (kindByte r ≡ 1 → ⊥) → openAt b (diskNumber r) ≡ true →
+        stepped n p a ≡ written (serveOf (partOf b (diskNumber r)) (callOf r)) →
+        stepped n (withPart b (diskNumber r) p) a ≡ written (onBoard b r)
     on-part k o e =
-        rw (← on-disk, ne-eqb (kindOf r) 1 k, o)
-        (ap (λ (s : Stepped). stepped (s .code) (withPart b (diskOf r) (s .bytes)) (s .answer)) e)
+        rw (← on-disk, ne-eqb (kindByte r) 1 k, o)
+        (ap (λ (s : Stepped). stepped (s .code) (withPart b (diskNumber r) (s .bytes)) (s .answer)) e)
 
 -- ---- any call
 
@@ -115,9 +115,9 @@ module _ (b r a : List ℕ) where
 
     module _ (room : length a ≡ 144) where
       pub record-refused : {s : Stepped} → wellFormed r ≡ false → s ≡ written (refusing b R.Record) → s ≡ stepOf b r a
-      unfolding stepOf tellOf
+      unfolding stepOf effectOf
       record-refused w e = rw (eq-eqb (length b) 49_216 whole, eq-eqb (length a) 144 room, w) e
 
       pub record-accepted : {s : Stepped} → wellFormed r ≡ true → s ≡ written (onBoard b r) → s ≡ stepOf b r a
-      unfolding stepOf tellOf
+      unfolding stepOf effectOf
       record-accepted w e = rw (eq-eqb (length b) 49_216 whole, eq-eqb (length a) 144 room, w) e

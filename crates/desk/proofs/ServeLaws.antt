@@ -26,7 +26,7 @@ use Rattle.answer.specs.declared.Answer.the-variants as A
 use Rattle.answer.specs.declared.Refusal.the-variants as R
 use Rattle.answer.specs.Answers.{numberOf, refusalOf, codeOf, answerBytes}
 use Rattle.pass.specs.Turns.{grantAnswer}
-use Rattle.desk.specs.Record.{kindOf as kindByte, nowOf, askedOf, callOf}
+use Rattle.desk.specs.Record.{kindByte, nowOf, askedIn, callOf}
 use Rattle.desk.specs.Step.{answerOf, settled, released, serveOf, stepped, written}
 
 -- ---- outcomes
@@ -105,7 +105,7 @@ module _ (p : List ℕ) {n : ℕ} {a : List ℕ} where
     serve-unsound k e h l = rw (good, rw reads at e) (λ i. stepped (h i) p (l i))
 
     module _ (holds : sound diskTable (diskOf d) ≡ true) (r : List ℕ) where
-      pub serve-claims : {q : LawAsked} {s : List ℕ} → q ≡ askedOf r → kindByte r ≡ 2 →
+      pub serve-claims : {q : LawAsked} {s : List ℕ} → q ≡ askedIn r → kindByte r ≡ 2 →
           stepped n s a ≡ written (settled p (claim diskTable (diskOf d) q)) → stepped n s a ≡ written (serveOf p (callOf r))
       unfolding serveOf soundPart
       serve-claims e k h = rw (good, rw reads at holds, eq-eqb (kindByte r) 2 k) (rw (reads, e) at h)

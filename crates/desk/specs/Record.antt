@@ -17,11 +17,11 @@ byteAt r i = getD r i 0
 -- ---- where what stands: 0–1 the mark, 2 kind, 3 disk, 4 method, 5 priority, 6 fresh flag, 7 zero, 8–11 now
 
 -- 1 open, 2 claim, 3 release.
-abbrev pub kindOf : List ℕ → ℕ
-kindOf r = byteAt r 2
+abbrev pub kindByte : List ℕ → ℕ
+kindByte r = byteAt r 2
 
-abbrev pub diskOf : List ℕ → ℕ
-diskOf r = byteAt r 3
+abbrev pub diskNumber : List ℕ → ℕ
+diskNumber r = byteAt r 3
 
 abbrev pub nowOf : List ℕ → ℕ
 nowOf r = wordAt r 8
@@ -46,19 +46,19 @@ kindFits r kind =
 -- 24 bytes, the mark, a known kind with its unused bytes zero, flag 0 or 1, byte 7 zero.
 unfoldable pub wellFormed : List ℕ → Bool
 wellFormed r =
-    allTrue (eqb (length r) (recordBytes (kindOf r))
+    allTrue (eqb (length r) (recordBytes (kindByte r))
     ∷ eqb (byteAt r 0) 0x52
     ∷ eqb (byteAt r 1) 0x42
     ∷ eqb (byteAt r 7) 0
     ∷ leb (byteAt r 6) mostFlag
-    ∷ kindFits r (kindOf r)
+    ∷ kindFits r (kindByte r)
     ∷ [])
 
 -- ---- the request
 
 -- A claim's fields: 12–15 second of measuring, 16–19 signed value, 20–23 own error or stated limit.
-unfoldable pub askedOf : List ℕ → Asked
-askedOf r =
+unfoldable pub askedIn : List ℕ → Asked
+askedIn r =
     record {
       now = nowOf r;
       method = byteAt r 4;
@@ -71,7 +71,7 @@ askedOf r =
 
 -- A claim, or the release of the ticket in 12–15.
 abbrev pub callOf : List ℕ → Call
-callOf r = cond (eqb (kindOf r) 2) (claims (askedOf r)) (releases (nowOf r) (wordAt r 12))
+callOf r = cond (eqb (kindByte r) 2) (claims (askedIn r)) (releases (nowOf r) (wordAt r 12))
 
 -- The limits of used and promised of an open: 16–19 and 20–23.
 abbrev pub usedLimit : List ℕ → ℕ

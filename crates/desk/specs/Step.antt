@@ -17,7 +17,7 @@ use Rattle.answer.specs.declared.Refusal.{Refusal}
 use Rattle.answer.specs.declared.Refusal.the-variants as R
 use Rattle.answer.specs.Answers.{refusalOf, codeOf, answerBytes, answerSize}
 use Rattle.pass.specs.Turns.{passedOf}
-use Rattle.desk.specs.Record.{wellFormed, kindOf, diskOf as diskNumber, nowOf, callOf, usedLimit, promisedLimit}
+use Rattle.desk.specs.Record.{wellFormed, kindByte, diskNumber, nowOf, callOf, usedLimit, promisedLimit}
 use Rattle.desk.specs.Board.{disks, boardBytes, partOf, withPart}
 
 -- ---- answers
@@ -31,71 +31,71 @@ answerOf i =
 -- What a call says: a refusal, or the items of the law, the call's own first, then the grants of its pass in order.
 pub data Said : Type 0 where
   refuses : Refusal → Said
-  tells : List Item → Said
+  accepts : List Item → Said
 
 -- The call's own answer, and the grants of its pass. (Every accepted call has an item of its own.)
 abbrev pub ownOf : Said → Answer
 ownOf (refuses r) = A.Refused r
-ownOf (tells []) = A.Opened
-ownOf (tells (i ∷ items)) = answerOf i
+ownOf (accepts []) = A.Opened
+ownOf (accepts (i ∷ items)) = answerOf i
 
 abbrev pub grantsOf : Said → List Answer
 grantsOf (refuses r) = []
-grantsOf (tells []) = []
-grantsOf (tells (i ∷ items)) = map answerOf items
+grantsOf (accepts []) = []
+grantsOf (accepts (i ∷ items)) = map answerOf items
 
 -- ---- what a call comes to
 
 -- The bytes lent to be written, a part or the board, after the call; and what the call says.
-pub record Told : Type 0 where
+pub record Effect : Type 0 where
   pub bytes : List ℕ
   pub said : Said
 
-abbrev pub telling : List ℕ → Said → Told
-telling s m = record { bytes = s; said = m }
+abbrev pub effect : List ℕ → Said → Effect
+effect s m = record { bytes = s; said = m }
 
 -- A refusal leaves the bytes as they were.
-abbrev pub refusing : List ℕ → Refusal → Told
-refusing s r = telling s (refuses r)
+abbrev pub refusing : List ℕ → Refusal → Effect
+refusing s r = effect s (refuses r)
 
 -- ---- a call on the part of an open disk
 
 -- What the law's outcome comes to on a part.
-abbrev pub settled : List ℕ → Outcome → Told
+abbrev pub settled : List ℕ → Outcome → Effect
 settled p (refused n) = refusing p (refusalOf n)
-settled p (accepted d items) = telling (partFor d) (tells items)
+settled p (accepted d items) = effect (partFor d) (accepts items)
 
 -- A release whose claim has ended, which leaves the disk e: its ticket, and the pass over e.
 unfoldable pub released : LawDisk → ℕ → Outcome
 released e n = accepted (passedOf e) (item 2 n ∷ pass diskTable (e .core) (e .waiting) .items)
 
-unfoldable pub serveOf : List ℕ → Call → Told
+unfoldable pub serveOf : List ℕ → Call → Effect
 serveOf p k = cond (soundPart p) (settled p (answered diskTable (held p) k)) (refusing p R.Unsound)
 
 -- ---- a call on a board of the right length
 
 -- Only the disk's own part is written.
-abbrev pub onPart : List ℕ → ℕ → Told → Told
-onPart b d t = telling (withPart b d (t .bytes)) (t .said)
+abbrev pub onPart : List ℕ → ℕ → Effect → Effect
+onPart b d t = effect (withPart b d (t .bytes)) (t .said)
 
 -- An open also sets the disk's bit.
-abbrev pub opening : List ℕ → ℕ → Outcome → Told
+abbrev pub opening : List ℕ → ℕ → Outcome → Effect
 opening b d (refused n) = refusing b (refusalOf n)
-opening b d (accepted e items) = telling (setOpen (withPart b d (partFor e)) d) (tells items)
+opening b d (accepted e items) = effect (setOpen (withPart b d (partFor e)) d) (accepts items)
 
-abbrev pub onDisk : List ℕ → List ℕ → ℕ → Told
+abbrev pub onDisk : List ℕ → List ℕ → ℕ → Effect
 onDisk b r d =
-    cond (eqb (kindOf r) 1)
+    cond (eqb (kindByte r) 1)
     (cond (openAt b d) (refusing b R.Open) (opening b d (openDisk (nowOf r) (usedLimit r) (promisedLimit r))))
     (cond (openAt b d) (onPart b d (serveOf (partOf b d) (callOf r))) (refusing b R.Closed))
 
 -- A well-formed record.
-unfoldable pub onBoard : List ℕ → List ℕ → Told
+unfoldable pub onBoard : List ℕ → List ℕ → Effect
 onBoard b r = cond (leb disks (diskNumber r)) (refusing b R.Disk) (onDisk b r (diskNumber r))
 
 -- Any record.
-unfoldable pub tellOf : List ℕ → List ℕ → Told
-tellOf b r = cond (wellFormed r) (onBoard b r) (refusing b R.Record)
+unfoldable pub effectOf : List ℕ → List ℕ → Effect
+effectOf b r = cond (wellFormed r) (onBoard b r) (refusing b R.Record)
 
 -- ---- the call
 
@@ -109,10 +109,10 @@ abbrev pub stepped : ℕ → List ℕ → List ℕ → Stepped
 stepped n s a = record { code = n; bytes = s; answer = a }
 
 -- All of the answer buffer is rewritten; the call returns the first item's code.
-abbrev pub written : Told → Stepped
+abbrev pub written : Effect → Stepped
 written t = stepped (codeOf (ownOf (t .said))) (t .bytes) (answerBytes (ownOf (t .said)) (grantsOf (t .said)))
 
 -- 9 is returned alone: neither buffer is touched.
 unfoldable pub stepOf : List ℕ → List ℕ → List ℕ → Stepped
 stepOf b r a =
-    cond (eqb (length b) boardBytes && eqb (length a) answerSize) (written (tellOf b r)) (stepped 9 b a)
+    cond (eqb (length b) boardBytes && eqb (length a) answerSize) (written (effectOf b r)) (stepped 9 b a)

@@ -17,9 +17,9 @@ use Rattle.answer.specs.declared.Answer.{Answer}
 use Rattle.answer.specs.declared.Answer.the-variants as A
 use Rattle.answer.specs.declared.Refusal.{Refusal}
 use Rattle.answer.specs.declared.Refusal.the-variants as R
-use Rattle.desk.specs.Record.{wellFormed, kindOf, diskOf, nowOf, askedOf, callOf, usedLimit, promisedLimit}
+use Rattle.desk.specs.Record.{wellFormed, kindByte, diskNumber, nowOf, askedIn, callOf, usedLimit, promisedLimit}
 use Rattle.desk.specs.Board.{disks, partOf}
-use Rattle.desk.specs.Step.{answerOf, Told, refusing, settled, serveOf, onPart, opening, onBoard, tellOf}
+use Rattle.desk.specs.Step.{answerOf, Effect, refusing, settled, serveOf, onPart, opening, onBoard, effectOf}
 
 -- The answer of an item.
 pub by-answer : (P : Answer → Type 0) (i : Item) → P (A.Granted (i .ticket) (i .told) (i .amount)) → P (A.Waits (i .ticket)) →
@@ -30,30 +30,30 @@ by-answer P i granted waits released opened =
     (λ e. by-test P (eqb (i .code) 1) (λ e. waits) (λ e. by-test P (eqb (i .code) 2) (λ e. released) (λ e. opened)))
 
 -- The call of a record.
-pub by-call : (P : Call → Type 0) (r : List ℕ) → P (claims (askedOf r)) → P (releases (nowOf r) (wordAt r 12)) → P (callOf r)
-by-call P r claim release = by-test P (eqb (kindOf r) 2) (λ e. claim) (λ e. release)
+pub by-call : (P : Call → Type 0) (r : List ℕ) → P (claims (askedIn r)) → P (releases (nowOf r) (wordAt r 12)) → P (callOf r)
+by-call P r claim release = by-test P (eqb (kindByte r) 2) (λ e. claim) (λ e. release)
 
 -- A call on the part of an open disk.
-pub by-serve : (P : Told → Type 0) (p : List ℕ) (k : Call) → P (refusing p R.Unsound) →
+pub by-serve : (P : Effect → Type 0) (p : List ℕ) (k : Call) → P (refusing p R.Unsound) →
     (soundPart p ≡ true → P (settled p (answered diskTable (held p) k))) → P (serveOf p k)
 unfolding serveOf
 by-serve P p k unsound served = by-test P (soundPart p) served (λ e. unsound)
 
 -- A call on a board: it refuses, or opens its disk, or is served on its disk's part.
-module _ (P : Told → Type 0) (b r : List ℕ) (refuses : (x : Refusal) → P (refusing b x)) where
-  pub by-tell :
-      (wellFormed r ≡ true → diskOf r < disks → openAt b (diskOf r) ≡ false →
-      P (opening b (diskOf r) (openDisk (nowOf r) (usedLimit r) (promisedLimit r)))) →
-      (wellFormed r ≡ true → diskOf r < disks → openAt b (diskOf r) ≡ true →
-      P (onPart b (diskOf r) (serveOf (partOf b (diskOf r)) (callOf r)))) →
-      P (tellOf b r)
-  unfolding tellOf onBoard
-  by-tell opens serves =
+module _ (P : Effect → Type 0) (b r : List ℕ) (refuses : (x : Refusal) → P (refusing b x)) where
+  pub by-effect :
+      (wellFormed r ≡ true → diskNumber r < disks → openAt b (diskNumber r) ≡ false →
+      P (opening b (diskNumber r) (openDisk (nowOf r) (usedLimit r) (promisedLimit r)))) →
+      (wellFormed r ≡ true → diskNumber r < disks → openAt b (diskNumber r) ≡ true →
+      P (onPart b (diskNumber r) (serveOf (partOf b (diskNumber r)) (callOf r)))) →
+      P (effectOf b r)
+  unfolding effectOf onBoard
+  by-effect opens serves =
       by-test P (wellFormed r)
       (λ w.
-      by-test P (leb disks (diskOf r)) (λ f. refuses R.Disk)
+      by-test P (leb disks (diskNumber r)) (λ f. refuses R.Disk)
       (λ f.
-      let known = leb-false disks (diskOf r) f in
-      by-test P (eqb (kindOf r) 1) (λ k. by-test P (openAt b (diskOf r)) (λ o. refuses R.Open) (opens w known))
-      (λ k. by-test P (openAt b (diskOf r)) (serves w known) (λ o. refuses R.Closed))))
+      let known = leb-false disks (diskNumber r) f in
+      by-test P (eqb (kindByte r) 1) (λ k. by-test P (openAt b (diskNumber r)) (λ o. refuses R.Open) (opens w known))
+      (λ k. by-test P (openAt b (diskNumber r)) (serves w known) (λ o. refuses R.Closed))))
       (λ w. refuses R.Record)

@@ -3,7 +3,7 @@
 ghost use mathlib.Core.Path.{_≡_};
 ghost use lib.ListN.{length};
 ghost use Rattle.rules.specs.Answers.{askedOf};
-ghost use Rattle.desk.specs.Record.{wellFormed, kindFits, askedOf as askedIn};
+ghost use Rattle.desk.specs.Record.{wellFormed, kindFits, askedIn};
 use num::signed::signed_at;
 use num::truth::both;
 use num::word::word_at;

@@ -13,7 +13,7 @@ use Rattle.law.specs.declared.Claim.{Claim}
 use Rattle.law.specs.declared.Entry.{Entry}
 use Rattle.law.specs.declared.Entry.the-variants.{A, N, D, G}
 use Rattle.law.specs.Types.{mostValue, Attribute, metric, same, Kind, sets, adds, reads, properKind, Figures, attr, putAttr, Table, Core}
-use Rattle.law.specs.Granting.{addsTo, limitBy, raisesBy, withAmount, noteBy, tellBy, amountBy, putTold, addsOn, ranged}
+use Rattle.law.specs.Granting.{addsTo, limitBy, raisesBy, withAmount, noteBy, toldBy, amountBy, putTold, addsOn, ranged}
 use Rattle.law.specs.Calls.{landBy}
 use Rattle.law.specs.Sound.{BareBy, ReadingBy, LimitFits, SumFits}
 use Rattle.law.specs.Fields.{ValueFits, FieldsFit}
@@ -152,7 +152,7 @@ raised-fits (reads m) r w more e h = record { bare = tt; reading = (h .reading .
 
 -- A granted reading is told a sum in range, and its total is within its limit; a write has neither.
 pub granted-fits : (f : Figures) (k : Kind) (c : Claim) (n : ℕ) → properKind k ≡ true → ((a : Attribute) → ValueFits a (attr f a .value)) →
-    n ≤ limitBy f k (c .error) → ActiveFits k (putTold c (tellBy f k) (amountBy k n))
+    n ≤ limitBy f k (c .error) → ActiveFits k (putTold c (toldBy f k) (amountBy k n))
 granted-fits f (sets a) c n proper h l = record { bare = (refl, refl); reading = tt }
 granted-fits f (adds a) c n proper h l = record { bare = (refl, refl); reading = tt }
 granted-fits f (reads m) c n proper h l = record { bare = tt; reading = (told-range f m proper h, l) }

@@ -10,7 +10,7 @@ use Rattle.num.specs.Metric.{size}
 use Rattle.law.specs.declared.Claim.{Claim}
 use Rattle.law.specs.Lists.{All, Pairs, all-both, all-there, all-less, pairs-less, sum-zero, length-grown, length-more, all-more, pairs-around, sum-there, all-grown, pairs-grown}
 use Rattle.law.specs.Types.{lastTicket, places, Attribute, sets, Table, Proper, attr, Core}
-use Rattle.law.specs.Granting.{tellBy, amountBy, addsOn, total, gap, growth, stays, granted, raised, asGranted, grant}
+use Rattle.law.specs.Granting.{toldBy, amountBy, addsOn, total, gap, growth, stays, granted, raised, asGranted, grant}
 use Rattle.law.specs.Calls.{landBy, setClock, finish}
 use Rattle.law.specs.Sound.{Bare, Formed, Passes}
 use Rattle.law.specs.AttributeLaws.{sum-less}
@@ -130,5 +130,5 @@ module _ (t : Table) where
         bare = all-less Bare xs c ys (h .bare);
         claims =
             claims-kept t (note-limits (s .figures) (kindOf t c) (total t s c)) (omega arith)
-            (claims-grant t xs c ys (tellBy (s .figures) (kindOf t c)) (amountBy (kindOf t c) (total t s c)) (growth t s c) (h .claims));
+            (claims-grant t xs c ys (toldBy (s .figures) (kindOf t c)) (amountBy (kindOf t c) (total t s c)) (growth t s c) (h .claims));
       }

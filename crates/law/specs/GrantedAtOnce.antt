@@ -16,7 +16,7 @@ use Rattle.law.specs.declared.Entry.the-variants.{A, N, G}
 use Rattle.law.specs.Base.{allTrue, everyOf, anyOf}
 use Rattle.law.specs.Lists.{All, all-say, all-passed, every-tests, none-tests, sum-zero}
 use Rattle.law.specs.Types.{mostError, places, lastTicket, Attribute, a0, a1, a2, metric, within, Kind, sets, adds, reads, Table, attr, Core, Disk, Asked, Item, accepted}
-use Rattle.law.specs.Granting.{costBy, raisesBy, limitBy, tellBy, carriedBy, fresh, addable, bearable, ranged, preconditions, limit, gap, cost, total, stays, lockStep, bars, grantTests, granted, grantItem}
+use Rattle.law.specs.Granting.{costBy, raisesBy, limitBy, toldBy, carriedBy, fresh, addable, bearable, ranged, preconditions, limit, gap, cost, total, stays, lockStep, bars, grantTests, granted, grantItem}
 use Rattle.law.specs.GrantLaws.{start-reads}
 use Rattle.law.specs.Calls.{fieldTests, ownFits, asked, at, grantedAtOnce, refusals, withGrant, decidedBy, decided, claim}
 use Rattle.law.specs.Events.{NoneHolds}
@@ -220,7 +220,7 @@ module _ (t : Table) (d : Disk) (q : Asked) (m : ℕ) (r : Reading t q m) (c : F
       record {
         code = 0;
         ticket = d .next;
-        told = tellBy (d .core .figures) (r .kind i);
+        told = toldBy (d .core .figures) (r .kind i);
         amount = free-total i;
         carried = carriedBy (d .core .figures) (r .kind i);
       }

@@ -72,10 +72,10 @@ noteBy f (adds a) total = putAttr f a (withAmount (attr f a) total)
 noteBy f (reads m) total = f
 
 -- A reading is told the present sum, a write 0.
-abbrev pub tellBy : Figures → Kind → ℤ
-tellBy f (sets a) = pos 0
-tellBy f (adds a) = pos 0
-tellBy f (reads m) = present f m
+abbrev pub toldBy : Figures → Kind → ℤ
+toldBy f (sets a) = pos 0
+toldBy f (adds a) = pos 0
+toldBy f (reads m) = present f m
 
 -- A granted reading's total becomes its own amount. A write has none.
 abbrev pub amountBy : Kind → ℕ → ℕ
@@ -222,7 +222,7 @@ module _ (t : Table) where
 
   -- The claim c, granted.
   abbrev pub asGranted : Core → Claim → Claim
-  asGranted s c = putTold c (tellBy (s .figures) (kindOf t c)) (amountBy (kindOf t c) (total s c))
+  asGranted s c = putTold c (toldBy (s .figures) (kindOf t c)) (amountBy (kindOf t c) (total s c))
 
   -- The disk after the grant of c.
   unfoldable pub grant : Core → Claim → Core
@@ -239,7 +239,7 @@ module _ (t : Table) where
       record {
         code = 0;
         ticket = c .ticket;
-        told = tellBy (s .figures) (kindOf t c);
+        told = toldBy (s .figures) (kindOf t c);
         amount = total s c;
         carried = carriedBy (s .figures) (kindOf t c);
       }

@@ -32,8 +32,8 @@ pub mod SoundKept
 pub mod Safety
 pub mod MaskLaws
 pub mod Near
-pub mod Held
-pub mod Kept
+pub mod Covered
+pub mod Invariant
 pub mod ReaderBound
 pub mod GrantedAtOnce
 pub mod Tickets

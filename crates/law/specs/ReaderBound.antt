@@ -12,8 +12,8 @@ use Rattle.law.specs.Granting.{grant, grantItem}
 use Rattle.law.specs.Calls.{opened, item, waitItem, claim, release, asked, at, letGo, finish, without, landed}
 use Rattle.law.specs.History.{Call, claims, releases, History, begun, answered, lived}
 use Rattle.law.specs.Events.{After, claim-after, release-after, pass-keeps, lived-keeps}
-use Rattle.law.specs.Held.{held-bound}
-use Rattle.law.specs.Kept.{Once, AllBorne, Borne, Kept, kept-note, kept-new, kept-leave, kept-end, kept-grant}
+use Rattle.law.specs.Covered.{covered-bound}
+use Rattle.law.specs.Invariant.{Once, AllBorne, Borne, Invariant, kept-note, kept-new, kept-leave, kept-end, kept-grant}
 use Rattle.law.specs.QueueLaws.{ended-cases, queue-cases}
 use Rattle.law.specs.Entries.{kindOf}
 use Rattle.law.specs.Readings.{present}
@@ -29,7 +29,7 @@ module _ (t : Table) where
       (s .active)
 
   KeptIn : Disk → List Item → Type 0
-  KeptIn d past = Kept t (d .core .figures) (d .core .active) (d .waiting) (d .next) past
+  KeptIn d past = Invariant t (d .core .figures) (d .core .active) (d .waiting) (d .next) past
 
   kept-opened : (now l0 l1 : ℕ) → KeptIn (opened now l0 l1) (item 3 0 ∷ [])
   unfolding KeptIn opened
@@ -52,20 +52,20 @@ module _ (t : Table) where
       kept-note t (waitItem t d q) (λ e. omega arith)
       (queue-cases
       (λ ws vs.
-      Kept t (d .core .figures) (d .core .active) ws (d .next) past →
-      Kept t (d .core .figures) (d .core .active) vs (d .next + 1) past)
+      Invariant t (d .core .figures) (d .core .active) ws (d .next) past →
+      Invariant t (d .core .figures) (d .core .active) vs (d .next + 1) past)
       (asked d q) (λ xs ys. kept-new t xs ys (asked d q) refl) (d .waiting) h))
 
   -- A release: the claim ends, active or waiting; then each grant of the pass.
   kept-finish : (d : Disk) (now n : ℕ) (past : List Item) → KeptIn d past →
-      Kept t (finish t (at d now) n .figures) (finish t (at d now) n .active) (without n (d .waiting)) (d .next) past
+      Invariant t (finish t (at d now) n .figures) (finish t (at d now) n .active) (without n (d .waiting)) (d .next) past
   unfolding KeptIn finish
   kept-finish d now n past h =
       ended-cases t (λ ws f vs. left ws → left vs) (d .core .figures) n (λ ws k. k) (λ xs w ys. kept-leave t xs w ys) (d .waiting)
       (kept-end t n h)
     where
       left : List Claim → Type 0
-      left ws = Kept t (landed t (d .core .figures) n (d .core .active)) (without n (d .core .active)) ws (d .next) past
+      left ws = Invariant t (landed t (d .core .figures) n (d .core .active)) (without n (d .core .active)) ws (d .next) past
 
   kept-release : (d : Disk) (now n : ℕ) (past : List Item) → KeptIn d past →
       After (λ e items. KeptIn e (past ++ items)) (release t d now n)
@@ -87,7 +87,7 @@ module _ (t : Table) where
       before = past ++ (item 2 n ∷ [])
 
       In : Core → List Claim → List Item → Type 0
-      In s waiting items = Kept t (s .figures) (s .active) waiting (d .next) items
+      In s waiting items = Invariant t (s .figures) (s .active) waiting (d .next) items
 
   kept-lived : (now l0 l1 : ℕ) (ks : List Call) →
       KeptIn (lived t (begun now l0 l1) ks .disk) (lived t (begun now l0 l1) ks .past)
@@ -116,7 +116,7 @@ module _ (t : Table) where
       (λ r w q m p.
       let bears = w q m p in
       subst (λ x. dist x (present (d .core .figures) m) + i .carried ≤ r .error) (sym (bears .told))
-      (held-bound t (d .core .figures) (d .core .active) m (i .carried) r (bears .z) (bears .share) (bears .held)))
+      (covered-bound t (d .core .figures) (d .core .active) m (i .carried) r (bears .z) (bears .share) (bears .held)))
       (d .core .active)
       (b z))
       (lived t (begun now l0 l1) ks .past)

@@ -82,13 +82,13 @@ says-four b c d e {P} {Q} {R} {S} s u v w =
 
 -- Any number of tests in a list, and the facts that they say.
 infixr 20 _⊳_
-pub data Row : List Bool → Type 0 → Type 1 where
-  none : Row [] (Unit {0})
-  _⊳_ : {b : Bool} {bs : List Bool} {P Q : Type 0} → Says b P → Row bs Q → Row (b ∷ bs) (P × Q)
+pub data Tests : List Bool → Type 0 → Type 1 where
+  none : Tests [] (Unit {0})
+  _⊳_ : {b : Bool} {bs : List Bool} {P Q : Type 0} → Says b P → Tests bs Q → Tests (b ∷ bs) (P × Q)
 
-pub says-row : {bs : List Bool} {P : Type 0} → Row bs P → Says (allTrue bs) P
-says-row none = says-true
-says-row (_⊳_ {b = b} {bs = bs} s r) = says-and b (allTrue bs) s (says-row r)
+pub says-tests : {bs : List Bool} {P : Type 0} → Tests bs P → Says (allTrue bs) P
+says-tests none = says-true
+says-tests (_⊳_ {b = b} {bs = bs} s r) = says-and b (allTrue bs) s (says-tests r)
 
 -- Every element, no element, every two.
 pub says-every : {A : Type 0} {p : A → Bool} {P : A → Type 0} → ((x : A) → Says (p x) (P x)) → (xs : List A) →

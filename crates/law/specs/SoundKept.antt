@@ -38,8 +38,8 @@ ReadableCall (claims q) = Readable q
 ReadableCall (releases now n) = Unit {0}
 
 -- A disk of these parts.
-abbrev diskOf : Core → List Claim → ℕ → Disk
-diskOf s ws next = record { core = s; waiting = ws; next = next }
+abbrev diskWith : Core → List Claim → ℕ → Disk
+diskWith s ws next = record { core = s; waiting = ws; next = next }
 
 -- An attribute of an opened disk.
 zero-fits : (a : Attribute) → ValueFits a (pos 0)
@@ -145,7 +145,7 @@ module _ (t : Table) where
   -- A waiting claim fewer, and whatever state keeps the rest.
   sound-less : {s u : Core} {next : ℕ} (xs : List Claim) (c : Claim) (ys : List Claim) →
       (Fit t s (xs ++ (c ∷ ys)) next → Fit t u (xs ++ ys) next) →
-      Sound t (diskOf s (xs ++ (c ∷ ys)) next) → Sound t (diskOf u (xs ++ ys) next)
+      Sound t (diskWith s (xs ++ (c ∷ ys)) next) → Sound t (diskWith u (xs ++ ys) next)
   sound-less xs c ys f h =
       fit-sound (omega (arith, length-more xs c ys, h .fewWaiting)) (pairs-less Before xs c ys (h .order)) (f (sound-fit h))
 
@@ -227,19 +227,19 @@ module _ (t : Table) where
 
   module _ (proper : Proper t) where
     pub sound-finish : (d : Disk) (now n : ℕ) → d .core .clock ≤ now → Sound t d →
-        Sound t (diskOf (finish t (at d now) n) (without n (d .waiting)) (d .next))
+        Sound t (diskWith (finish t (at d now) n) (without n (d .waiting)) (d .next))
     sound-finish d now n l h =
         ended-cases t (λ ws f vs. left ws → left vs) (d .core .figures) n (λ ws k. k)
         (λ xs w ys. sound-less xs w ys (fit-leave t xs w ys)) (d .waiting)
         (fit-sound (h .fewWaiting) (h .order) (fit-finish t proper n (fit-at now l h)))
       where
         left : List Claim → Type 0
-        left ws = Sound t (diskOf (finish t (at d now) n) ws (d .next))
+        left ws = Sound t (diskWith (finish t (at d now) n) ws (d .next))
 
-    pub sound-pass : (s : Core) (ws : List Claim) (next : ℕ) → Sound t (diskOf s ws next) →
-        Sound t (diskOf (pass t s ws .core) (pass t s ws .ahead) next)
+    pub sound-pass : (s : Core) (ws : List Claim) (next : ℕ) → Sound t (diskWith s ws next) →
+        Sound t (diskWith (pass t s ws .core) (pass t s ws .ahead) next)
     sound-pass s ws next =
-        pass-keeps t (λ u vs items. Sound t (diskOf u vs next))
+        pass-keeps t (λ u vs items. Sound t (diskWith u vs next))
         (λ u ahead c rest items g. sound-less ahead c rest (fit-grant t proper ahead c ahead rest g))
         (record { core = s; ahead = []; items = [] }) ws
 

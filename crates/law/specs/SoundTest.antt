@@ -14,7 +14,7 @@ use Rattle.law.specs.Entries.{isNever, kindOf, entry}
 use Rattle.law.specs.Granting.{addsOn, statedLimit}
 use Rattle.law.specs.Calls.{fieldTests, ownFits, before, claimRefusals}
 use Rattle.law.specs.Sound.{eachAttribute, bare, bareBy, readingBy, limitFits, formed, sumFits, Bare, BareBy, ReadingBy, LimitFits, Formed, SumFits, passes, Passes, claimsOn, soundTests, sound, Sound}
-use Rattle.law.specs.Says.{Says, says-true, says-le, says-lt, says-eq, says-not, says-two, Row, none, _⊳_, says-row, says-every, says-none, says-pairs, says-self, says-fails, _and_}
+use Rattle.law.specs.Says.{Says, says-true, says-le, says-lt, says-eq, says-not, says-two, Tests, none, _⊳_, says-tests, says-every, says-none, says-pairs, says-self, says-fails, _and_}
 use Rattle.law.specs.FieldLaws.{says-zero, says-value, says-fields, says-own}
 use Rattle.law.specs.Events.{NoneHolds}
 
@@ -25,7 +25,7 @@ pub says-each : {p : Attribute → Bool} {P : Attribute → Type 0} → ((a : At
 says-each {p} {P} s = (λ e. of-three (row .0 e), λ h. row .1 (h a0 and h a1 and h a2 and tt))
   where
     row : Says (eachAttribute p) (P a0 × (P a1 × (P a2 × Unit {0})))
-    row = says-row (s a0 ⊳ s a1 ⊳ s a2 ⊳ none)
+    row = says-tests (s a0 ⊳ s a1 ⊳ s a2 ⊳ none)
 
     of-three : P a0 × (P a1 × (P a2 × Unit {0})) → (a : Attribute) → P a
     of-three h a0 = h .0
@@ -94,7 +94,7 @@ module _ (t : Table) (d : Disk) where
       let now = d .core .clock in
       let f = d .core .figures in
       let ws = d .core .active in
-      let row : Row (soundTests t d) _ =
+      let row : Tests (soundTests t d) _ =
       says-every (λ c. says-bare-by (kindOf t c) c) ws
       ⊳ says-every says-bare (d .waiting)
       ⊳ says-each (λ a. says-value a (attr f a .value))
@@ -116,7 +116,7 @@ module _ (t : Table) (d : Disk) where
       ⊳ says-pairs (λ x y. says-fails (isNever (entry t x y))) ws
       ⊳ says-pairs (λ x y. says-self (before x y)) (d .waiting)
       ⊳ none in
-      let both = says-row row in (
+      let both = says-tests row in (
         λ e.
             let h = both .0 e in
             record {

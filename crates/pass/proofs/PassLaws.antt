@@ -30,8 +30,8 @@ use Rattle.rules.specs.Masks.{methodBit, methodsOf}
 use Rattle.rules.specs.Pairs.{addOf}
 use Rattle.rules.proofs.LeftLaws.{methods-last, methods-same, sum-last, adds-same}
 use Rattle.rules.specs.declared.disk.Disk.{Disk}
-use Rattle.rules.specs.Disks.{figuresIn, coreIn, diskOf, Good, DiskIs, grantOf, TellFits}
-use Rattle.rules.proofs.RangeLaws.{limit-most, error-most, limit-range, tell-range}
+use Rattle.rules.specs.Disks.{figuresIn, coreIn, diskOf, Good, DiskIs, grantOf, ToldFits}
+use Rattle.rules.proofs.RangeLaws.{limit-most, error-most, limit-range, told-most}
 use Rattle.answer.specs.declared.Answer.{Answer}
 use Rattle.answer.specs.Answers.{itemBytes, answerBytes, Behind}
 use Rattle.answer.specs.AnswerLaws.{one-more}
@@ -42,8 +42,8 @@ use Rattle.pass.specs.Turns.{grantAnswer, tried, front, TurnFits, TurnBy
 -- ---- what is told and counted
 
 module _ (d : Disk) (i : ℕ) (f : TurnFits d i) where
-  pub tell-fits : TellFits d (tried d i)
-  tell-fits = tell-range (figuresIn d) (kindOf diskTable (tried d i)) (proper-kind diskTable disk-proper (tried d i .method)) (f .0)
+  pub told-fits : ToldFits d (tried d i)
+  told-fits = told-most (figuresIn d) (kindOf diskTable (tried d i)) (proper-kind diskTable disk-proper (tried d i .method)) (f .0)
 
   pub total-most : MayGrant diskTable (coreIn d) (tried d i) → total diskTable (coreIn d) (tried d i) ≤ mostError
   total-most may =

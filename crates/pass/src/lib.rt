@@ -15,7 +15,7 @@ ghost use Rattle.law.specs.Sound.{Sound};
 ghost use Rattle.law.specs.DiskType.{diskTable};
 ghost use Rattle.rules.specs.Masks.{methodsOf};
 ghost use Rattle.rules.specs.Pairs.{addOf};
-ghost use Rattle.rules.specs.Disks.{coreIn, diskOf, Good, DiskIs, grantOf, TellFits};
+ghost use Rattle.rules.specs.Disks.{coreIn, diskOf, Good, DiskIs, grantOf, ToldFits};
 ghost use Rattle.part.specs.Layout.{decode, decodes};
 ghost use Rattle.part.specs.Held.{held, partFor};
 ghost use Rattle.answer.specs.Answers.{OwnOnly, Behind, itemBytes};
@@ -66,7 +66,7 @@ fn give(s: &mut [u8], answer: &mut [u8], n: usize, c: Claim, total: u32)
     requires { ⌜ Holds (now s) (decode (now s)) ⌝ }
     requires { ⌜ Good (decode (now s)) ⌝ }
     requires { ⌜ MayGrant diskTable (coreIn (decode (now s))) c ⌝ }
-    requires { ⌜ TellFits (decode (now s)) c ⌝ }
+    requires { ⌜ ToldFits (decode (now s)) c ⌝ }
     requires { ⌜ total ≡ lawTotal diskTable (coreIn (decode (now s))) c ⌝ }
     requires { ⌜ length (now answer) ≡ 144 ⌝ }
     requires { ⌜ n < 8 ⌝ }

@@ -17,11 +17,11 @@ use Rattle.law.specs.Calls.{Rule, unless, item, opened as openedDisk, openRefus
 use Rattle.law.specs.History.{claims, releases, answered}
 use Rattle.law.specs.DiskType.{diskTable}
 use Rattle.law.specs.Events.{by-rules}
-use Rattle.law.specs.Says.{by-test, Says, fails, says-lt, says-self, says-fails, says-none, none, _⊳_ as _then_, says-row, _and_}
+use Rattle.law.specs.Says.{by-test, Says, fails, says-lt, says-self, says-fails, says-none, none, _⊳_ as _then_, says-tests, _and_}
 use Rattle.law.specs.Sentences.{Sentence, FirstHolds}
 use Rattle.answer.specs.Answers.{refusalOf}
 use Rattle.answer.specs.AnswerLaws.{number-range}
-use Rattle.desk.specs.Record.{kindOf, diskOf, nowOf, askedOf, usedLimit, promisedLimit, wellFormed}
+use Rattle.desk.specs.Record.{kindByte, diskNumber, nowOf, askedIn, usedLimit, promisedLimit, wellFormed}
 use Rattle.desk.specs.Board.{disks, partOf}
 use Rattle.part.specs.Held.{held, soundPart}
 use Rattle.desk.specs.Step.{answerOf, stepOf}
@@ -55,7 +55,7 @@ says-grants : (s : Core) (waiting : List Claim) (c : Claim) → Says (granted di
 unfolding granted
 says-grants s waiting c =
     let all =
-    says-row
+    says-tests
     (says-self (preconditions diskTable s c)
     then says-none (bars diskTable s c) (λ w. says-fails (bars diskTable s c w)) waiting
     then says-self (lockStep diskTable s c)
@@ -110,30 +110,30 @@ claim-code d q h = unless-code (refusals diskTable d q) (decided diskTable d q) 
 abbrev restOf : ℕ → Outcome → LawDisk → List ℕ → ℕ
 restOf k o d r =
     cond (eqb k 1) (outcomeCode o)
-    (outcomeCode (answered diskTable d (cond (eqb k 2) (claims (askedOf r)) (releases (nowOf r) (wordAt r 12)))))
+    (outcomeCode (answered diskTable d (cond (eqb k 2) (claims (askedIn r)) (releases (nowOf r) (wordAt r 12)))))
 
 -- ---- what an accepted call ends in
 
 pub data Ends (b r : List ℕ) (code : ℕ) : Type 0 where
-  opens : kindOf r ≡ 1 → code ≡ 3 → Ends b r code
-  grants : kindOf r ≡ 2 → GrantsIn b r → code ≡ 0 → Ends b r code
-  waits : kindOf r ≡ 2 → (GrantsIn b r → ⊥) → code ≡ 1 → Ends b r code
-  frees : kindOf r ≡ 3 → code ≡ 2 → Ends b r code
+  opens : kindByte r ≡ 1 → code ≡ 3 → Ends b r code
+  grants : kindByte r ≡ 2 → GrantsIn b r → code ≡ 0 → Ends b r code
+  waits : kindByte r ≡ 2 → (GrantsIn b r → ⊥) → code ≡ 1 → Ends b r code
+  frees : kindByte r ≡ 3 → code ≡ 2 → Ends b r code
 
 pub ends : (b r a : List ℕ) → NoneHold (sentences b r a) → stepOf b r a .code ≤ 3 → Ends b r (stepOf b r a .code)
 ends b r a free h = by-kind (none-formed b r a free .kind)
   where
     d : LawDisk
-    d = held (partOf b (diskOf r))
+    d = held (partOf b (diskNumber r))
 
     rest : ℕ
-    rest = cond (eqb (kindOf r) 1) (outcomeCode (opened b r a)) (outcomeCode (served b r a))
+    rest = cond (eqb (kindByte r) 1) (outcomeCode (opened b r a)) (outcomeCode (served b r a))
 
     is-rest : stepOf b r a .code ≡ rest
     is-rest =
         code-by b r a
         ∙ first-rest
-        (tests (lengths b r a) (wellFormed r) (leb disks (diskOf r)) (eqb (kindOf r) 1) (openAt b (diskOf r)) (soundPart (partOf b (diskOf r))))
+        (tests (lengths b r a) (wellFormed r) (leb disks (diskNumber r)) (eqb (kindByte r) 1) (openAt b (diskNumber r)) (soundPart (partOf b (diskNumber r))))
         rest
         (omega arith and omega arith and omega arith and omega arith and omega arith and omega arith and tt)
         (omega (arith, h, code-by b r a))
@@ -141,52 +141,52 @@ ends b r a free h = by-kind (none-formed b r a free .kind)
     small : rest ≤ 3
     small = omega (arith, h, is-rest)
 
-    at-kind : (n : ℕ) → kindOf r ≡ n → rest ≡ restOf n (opened b r a) d r
+    at-kind : (n : ℕ) → kindByte r ≡ n → rest ≡ restOf n (opened b r a) d r
     at-kind n k = ap (λ (j : ℕ). restOf j (opened b r a) d r) k
 
-    open-rest : kindOf r ≡ 1 → rest ≡ 3
+    open-rest : kindByte r ≡ 1 → rest ≡ 3
     open-rest k =
         at-kind 1 k ∙ open-code (nowOf r) (usedLimit r) (promisedLimit r) (omega (arith, small, at-kind 1 k))
 
-    claim-rest : kindOf r ≡ 2 → rest ≡ claimCode (grantedAtOnce diskTable d (askedOf r))
-    claim-rest k = at-kind 2 k ∙ claim-code d (askedOf r) (omega (arith, small, at-kind 2 k))
+    claim-rest : kindByte r ≡ 2 → rest ≡ claimCode (grantedAtOnce diskTable d (askedIn r))
+    claim-rest k = at-kind 2 k ∙ claim-code d (askedIn r) (omega (arith, small, at-kind 2 k))
 
-    release-rest : kindOf r ≡ 3 → rest ≡ 2
+    release-rest : kindByte r ≡ 3 → rest ≡ 2
     release-rest k = at-kind 3 k ∙ release-code d (nowOf r) (wordAt r 12) (omega (arith, small, at-kind 3 k))
 
-    claimed : kindOf r ≡ 2 → (w : Bool) → grantedAtOnce diskTable d (askedOf r) ≡ w → rest ≡ claimCode w → Ends b r (stepOf b r a .code)
-    claimed k true e q = grants k (says-grants (at d (askedOf r .now)) (d .waiting) (asked d (askedOf r)) .0 e) (is-rest ∙ q)
+    claimed : kindByte r ≡ 2 → (w : Bool) → grantedAtOnce diskTable d (askedIn r) ≡ w → rest ≡ claimCode w → Ends b r (stepOf b r a .code)
+    claimed k true e q = grants k (says-grants (at d (askedIn r .now)) (d .waiting) (asked d (askedIn r)) .0 e) (is-rest ∙ q)
     claimed k false e q =
         waits k
-        (fails (grantedAtOnce diskTable d (askedOf r)) (says-grants (at d (askedOf r .now)) (d .waiting) (asked d (askedOf r))) .0 e)
+        (fails (grantedAtOnce diskTable d (askedIn r)) (says-grants (at d (askedIn r .now)) (d .waiting) (asked d (askedIn r))) .0 e)
         (is-rest ∙ q)
 
     by-kind : KindFits r → Ends b r (stepOf b r a .code)
     by-kind (inl k) = opens (k .0) (is-rest ∙ open-rest (k .0))
-    by-kind (inr (inl k)) = claimed k (grantedAtOnce diskTable d (askedOf r)) refl (claim-rest k)
+    by-kind (inr (inl k)) = claimed k (grantedAtOnce diskTable d (askedIn r)) refl (claim-rest k)
     by-kind (inr (inr k)) = frees (k .0) (is-rest ∙ release-rest (k .0))
 
 -- Each code exactly in its case.
 module _ (b r : List ℕ) (code : ℕ) where
-  pub ends-opened : Ends b r code → (code ≡ 3) ↔ (kindOf r ≡ 1)
+  pub ends-opened : Ends b r code → (code ≡ 3) ↔ (kindByte r ≡ 1)
   ends-opened (opens k c) = (λ e. k, λ j. c)
   ends-opened (grants k g c) = (λ e. absurd (omega arith), λ j. absurd (omega arith))
   ends-opened (waits k g c) = (λ e. absurd (omega arith), λ j. absurd (omega arith))
   ends-opened (frees k c) = (λ e. absurd (omega arith), λ j. absurd (omega arith))
 
-  pub ends-granted : Ends b r code → (code ≡ 0) ↔ ((kindOf r ≡ 2) × GrantsIn b r)
+  pub ends-granted : Ends b r code → (code ≡ 0) ↔ ((kindByte r ≡ 2) × GrantsIn b r)
   ends-granted (opens k c) = (λ e. absurd (omega arith), λ j. absurd (omega (arith, j .0)))
   ends-granted (grants k g c) = (λ e. (k, g), λ j. c)
   ends-granted (waits k g c) = (λ e. absurd (omega arith), λ j. absurd (g (j .1)))
   ends-granted (frees k c) = (λ e. absurd (omega arith), λ j. absurd (omega (arith, j .0)))
 
-  pub ends-waits : Ends b r code → (code ≡ 1) ↔ ((kindOf r ≡ 2) × (GrantsIn b r → ⊥))
+  pub ends-waits : Ends b r code → (code ≡ 1) ↔ ((kindByte r ≡ 2) × (GrantsIn b r → ⊥))
   ends-waits (opens k c) = (λ e. absurd (omega arith), λ j. absurd (omega (arith, j .0)))
   ends-waits (grants k g c) = (λ e. absurd (omega arith), λ j. absurd (j .1 g))
   ends-waits (waits k g c) = (λ e. (k, g), λ j. c)
   ends-waits (frees k c) = (λ e. absurd (omega arith), λ j. absurd (omega (arith, j .0)))
 
-  pub ends-released : Ends b r code → (code ≡ 2) ↔ (kindOf r ≡ 3)
+  pub ends-released : Ends b r code → (code ≡ 2) ↔ (kindByte r ≡ 3)
   ends-released (opens k c) = (λ e. absurd (omega arith), λ j. absurd (omega arith))
   ends-released (grants k g c) = (λ e. absurd (omega arith), λ j. absurd (omega arith))
   ends-released (waits k g c) = (λ e. absurd (omega arith), λ j. absurd (omega arith))

@@ -18,11 +18,11 @@ use Rattle.law.specs.QueueLaws.{all-without, all-queued}
 use Rattle.law.specs.Events.{After, claim-after, release-after, pass-keeps}
 use Rattle.law.specs.History.{claims, releases, answered}
 use Rattle.law.specs.DiskType.{diskTable}
-use Rattle.desk.specs.Record.{kindOf, diskOf, nowOf, askedOf}
+use Rattle.desk.specs.Record.{kindByte, diskNumber, nowOf, askedIn}
 use Rattle.desk.specs.Board.{disks, partOf}
 use Rattle.part.specs.Held.{held}
-use Rattle.desk.specs.Step.{Said, tells}
-use Rattle.promises.specs.Histories.{Call, BytesIn, stepBy, saidBy, History, after, lived}
+use Rattle.desk.specs.Step.{Said, accepts}
+use Rattle.promises.specs.Histories.{BoardCall, BytesIn, stepBy, saidBy, History, after, lived}
 use Rattle.promises.specs.Asks.{asAsked, Claimed, takenBy, taken, claimedOn, claimed, AsAsked}
 use Rattle.promises.specs.SomeLaws.{some-left, some-right}
 use Rattle.promises.specs.CaseLaws.{opened-held, served-held}
@@ -59,12 +59,12 @@ module _ (past : List Claimed) where
 more-asked : (past new : List Claimed) (ws : List Claim) → All (AsAsked past) ws → All (AsAsked (past ++ new)) ws
 more-asked past new ws h =
     all-say (AsAsked past) (AsAsked (past ++ new))
-    (λ c. some-left (λ x. asAsked c ≡ claimOf (askedOf (x .asks)) (x .ticket)) past new) ws h
+    (λ c. some-left (λ x. asAsked c ≡ claimOf (askedIn (x .asks)) (x .ticket)) past new) ws h
 
 -- A claim asks for itself, with the next ticket; a release for nothing.
 module _ (past : List Claimed) (d : LawDisk) (r : List ℕ) (h : All (AsAsked past) (claimsOn d)) where
   abbrev c : Claim
-  c = asked d (askedOf r)
+  c = asked d (askedIn r)
 
   abbrev own : List Claimed
   own = record { ticket = d .next; asks = r } ∷ []
@@ -76,17 +76,17 @@ module _ (past : List Claimed) (d : LawDisk) (r : List ℕ) (h : All (AsAsked pa
   waiting = all-right (AsAsked (past ++ own)) (d .core .active) (d .waiting) (more-asked past own (claimsOn d) h)
 
   new : AsAsked (past ++ own) c
-  new = some-right (λ x. asAsked c ≡ claimOf (askedOf (x .asks)) (x .ticket)) past own (inl refl)
+  new = some-right (λ x. asAsked c ≡ claimOf (askedIn (x .asks)) (x .ticket)) past own (inl refl)
 
   call-asked : (v : Bool) →
       After (λ e items. All (AsAsked (past ++ takenBy v items r)) (claimsOn e))
-      (answered diskTable d (cond v (claims (askedOf r)) (releases (nowOf r) (wordAt r 12))))
+      (answered diskTable d (cond v (claims (askedIn r)) (releases (nowOf r) (wordAt r 12))))
   unfolding grantItem
   call-asked true =
-      claim-after diskTable (λ e items. All (AsAsked (past ++ takenBy true items r)) (claimsOn e)) d (askedOf r)
+      claim-after diskTable (λ e items. All (AsAsked (past ++ takenBy true items r)) (claimsOn e)) d (askedIn r)
       (λ ok g.
-      all-append (AsAsked (past ++ own)) (grant diskTable (at d (askedOf r .now)) c .active) (d .waiting)
-      (grant-asked (past ++ own) (at d (askedOf r .now)) c new active)
+      all-append (AsAsked (past ++ own)) (grant diskTable (at d (askedIn r .now)) c .active) (d .waiting)
+      (grant-asked (past ++ own) (at d (askedIn r .now)) c new active)
       waiting)
       (λ ok g.
       all-append (AsAsked (past ++ own)) (d .core .active) (queue c (d .waiting)) active
@@ -101,7 +101,7 @@ module _ (past : List Claimed) (d : LawDisk) (r : List ℕ) (h : All (AsAsked pa
 abbrev pub EachAsked : List ℕ → (ℕ → List Claimed) → Type 0
 EachAsked b past = (d : ℕ) → d < disks → openAt b d ≡ true → All (AsAsked (past d)) (claimsOn (held (partOf b d)))
 
-module _ (h : History) (k : Call) (w : Whole h) (bs : BytesIn k) (past : ℕ → List Claimed) (kept : EachAsked (h .board) past) where
+module _ (h : History) (k : BoardCall) (w : Whole h) (bs : BytesIn k) (past : ℕ → List Claimed) (kept : EachAsked (h .board) past) where
   abbrev b : List ℕ
   b = h .board
 
@@ -109,7 +109,7 @@ module _ (h : History) (k : Call) (w : Whole h) (bs : BytesIn k) (past : ℕ →
   r = k .asks
 
   abbrev dk : ℕ
-  dk = diskOf (k .asks)
+  dk = diskNumber (k .asks)
 
   abbrev later : ℕ → List Claimed
   later d = past d ++ claimedOn (h .board) k d
@@ -131,13 +131,13 @@ module _ (h : History) (k : Call) (w : Whole h) (bs : BytesIn k) (past : ℕ →
           subst (λ (x : LawDisk). All (AsAsked (later dk)) (claimsOn x)) (sym (ap held p ∙ opened-held r bs f0 f1)) tt
       go (serves f was s g items a on p i) l o =
           subst (λ (x : LawDisk). All (AsAsked (later dk)) (claimsOn x)) (sym (ap held p ∙ served-held (partOf b dk) r bs f s g items a))
-          (subst (λ (x : List Claimed). All (AsAsked (past dk ++ x)) (claimsOn g)) (sym (own-taken (tells items) i))
-          (subst (After (λ x ys. All (AsAsked (past dk ++ takenBy (eqb (kindOf r) 2) ys r)) (claimsOn x))) a
-          (call-asked (past dk) (held (partOf b dk)) r (kept dk l was) (eqb (kindOf r) 2))))
+          (subst (λ (x : List Claimed). All (AsAsked (past dk ++ x)) (claimsOn g)) (sym (own-taken (accepts items) i))
+          (subst (After (λ x ys. All (AsAsked (past dk ++ takenBy (eqb (kindByte r) 2) ys r)) (claimsOn x))) a
+          (call-asked (past dk) (held (partOf b dk)) r (kept dk l was) (eqb (kindByte r) 2))))
 
 -- ---- any calls
 
-pub lived-asked : (h : History) (ks : List Call) → All BytesIn ks → Whole h → (past : ℕ → List Claimed) → EachAsked (h .board) past →
+pub lived-asked : (h : History) (ks : List BoardCall) → All BytesIn ks → Whole h → (past : ℕ → List Claimed) → EachAsked (h .board) past →
     EachAsked (lived h ks .board) (λ d. past d ++ claimed h ks d)
 unfolding lived claimed
 lived-asked h [] bs w past kept d l o =

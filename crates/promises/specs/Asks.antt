@@ -11,9 +11,9 @@ use Rattle.num.specs.Word.{wordAt}
 use Rattle.law.specs.declared.Claim.{Claim}
 use Rattle.law.specs.Types.{claimOf, Item}
 use Rattle.law.specs.Granting.{putTold}
-use Rattle.desk.specs.Record.{kindOf, diskOf, askedOf}
-use Rattle.desk.specs.Step.{Said, refuses, tells}
-use Rattle.promises.specs.Histories.{Call, saidBy, itemsIn, History, after}
+use Rattle.desk.specs.Record.{kindByte, diskNumber, askedIn}
+use Rattle.desk.specs.Step.{Said, refuses, accepts}
+use Rattle.promises.specs.Histories.{BoardCall, saidBy, itemsIn, History, after}
 
 -- A claim as it was asked for: without what a grant adds.
 abbrev pub asAsked : Claim → Claim
@@ -31,14 +31,14 @@ takenBy v (i ∷ items) r = cond v (record { ticket = i .ticket; asks = r } ∷ 
 
 abbrev pub taken : Said → List ℕ → List Claimed
 taken (refuses x) r = []
-taken (tells items) r = takenBy (eqb (kindOf r) 2) items r
+taken (accepts items) r = takenBy (eqb (kindByte r) 2) items r
 
 -- On disk d.
-abbrev pub claimedOn : List ℕ → Call → ℕ → List Claimed
-claimedOn b k d = cond (eqb d (diskOf (k .asks))) (taken (saidBy b k) (k .asks)) []
+abbrev pub claimedOn : List ℕ → BoardCall → ℕ → List Claimed
+claimedOn b k d = cond (eqb d (diskNumber (k .asks))) (taken (saidBy b k) (k .asks)) []
 
 -- By a list of calls.
-unfoldable pub claimed : History → List Call → ℕ → List Claimed
+unfoldable pub claimed : History → List BoardCall → ℕ → List Claimed
 claimed h [] d = []
 claimed h (k ∷ ks) d = claimedOn (h .board) k d ++ claimed (after h k) ks d
 
@@ -48,11 +48,11 @@ tookBy [] = []
 tookBy (i ∷ items) = cond (leb (i .code) 1) (i .ticket ∷ []) []
 
 -- On disk d.
-abbrev pub tookOn : List ℕ → Call → ℕ → List ℕ
-tookOn b k d = cond (eqb d (diskOf (k .asks))) (tookBy (itemsIn (saidBy b k))) []
+abbrev pub tookOn : List ℕ → BoardCall → ℕ → List ℕ
+tookOn b k d = cond (eqb d (diskNumber (k .asks))) (tookBy (itemsIn (saidBy b k))) []
 
 -- By a list of calls, in their order.
-unfoldable pub took : History → List Call → ℕ → List ℕ
+unfoldable pub took : History → List BoardCall → ℕ → List ℕ
 took h [] d = []
 took h (k ∷ ks) d = tookOn (h .board) k d ++ took (after h k) ks d
 
@@ -63,7 +63,7 @@ Some P (x ∷ xs) = P x ⊎ Some P xs
 
 -- The claim is one of those, with its ticket, and but for told and amount as its record asks.
 abbrev pub AsAsked : List Claimed → Claim → Type 0
-AsAsked past c = Some (λ x. asAsked c ≡ claimOf (askedOf (x .asks)) (x .ticket)) past
+AsAsked past c = Some (λ x. asAsked c ≡ claimOf (askedIn (x .asks)) (x .ticket)) past
 
 -- The claim is one of those, with its ticket, and its own error or stated limit is the one in bytes 20–23 of its record.
 abbrev pub Stated : List Claimed → Claim → Type 0

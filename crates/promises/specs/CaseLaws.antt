@@ -15,7 +15,7 @@ use Rattle.law.specs.Types.{mostError, Disk as LawDisk, Item, Outcome, refused,
 use Rattle.law.specs.Granting.{grant}
 use Rattle.law.specs.Calls.{item, at, opened, openRefusals, openDisk, finish, without}
 use Rattle.law.specs.Events.{After, by-rules, claim-after, release-after, pass-keeps}
-use Rattle.law.specs.History.{Call as LawCall, claims, releases, answered}
+use Rattle.law.specs.History.{Call, claims, releases, answered}
 use Rattle.law.specs.Sound.{Sound}
 use Rattle.law.specs.SoundKept.{ReadableCall, sound-kept, sound-opened}
 use Rattle.law.specs.ProperLaws.{disk-proper}
@@ -23,75 +23,75 @@ use Rattle.law.specs.DiskType.{diskTable}
 use Rattle.answer.specs.declared.Refusal.{Refusal}
 use Rattle.answer.specs.declared.Refusal.the-variants as R
 use Rattle.answer.specs.Answers.{refusalOf}
-use Rattle.desk.specs.Record.{wellFormed, diskOf, nowOf, askedOf, callOf, usedLimit, promisedLimit}
+use Rattle.desk.specs.Record.{wellFormed, diskNumber, nowOf, askedIn, callOf, usedLimit, promisedLimit}
 use Rattle.desk.specs.Board.{disks, boardBytes, partOf, withPart}
 use Rattle.desk.specs.BoardLaws.{with-same}
 use Rattle.part.specs.Held.{held, partFor, soundPart}
 use Rattle.part.specs.PartLaws.{sound-held, held-part, length-part-for}
 use Rattle.promises.specs.RefusalLaws.{says-formed}
-use Rattle.desk.specs.Step.{tells, telling, refusing, settled, serveOf, onPart, opening, tellOf}
-use Rattle.desk.specs.StepLaws.{by-call, by-serve, by-tell}
+use Rattle.desk.specs.Step.{accepts, effect, refusing, settled, serveOf, onPart, opening, effectOf}
+use Rattle.desk.specs.StepLaws.{by-call, by-serve, by-effect}
 
 -- ---- the cases
 
 pub data Case (b r : List ℕ) : Type 0 where
-  isRefused : (x : Refusal) → tellOf b r ≡ refusing b x → Case b r
-  isOpened : wellFormed r ≡ true → diskOf r < disks → openAt b (diskOf r) ≡ false → usedLimit r ≤ mostError → promisedLimit r ≤ mostError →
-      tellOf b r
-      ≡ telling (setOpen (withPart b (diskOf r) (partFor (opened (nowOf r) (usedLimit r) (promisedLimit r)))) (diskOf r))
-      (tells (item 3 0 ∷ [])) →
+  isRefused : (x : Refusal) → effectOf b r ≡ refusing b x → Case b r
+  isOpened : wellFormed r ≡ true → diskNumber r < disks → openAt b (diskNumber r) ≡ false → usedLimit r ≤ mostError → promisedLimit r ≤ mostError →
+      effectOf b r
+      ≡ effect (setOpen (withPart b (diskNumber r) (partFor (opened (nowOf r) (usedLimit r) (promisedLimit r)))) (diskNumber r))
+      (accepts (item 3 0 ∷ [])) →
       Case b r
-  isServed : wellFormed r ≡ true → diskOf r < disks → openAt b (diskOf r) ≡ true → soundPart (partOf b (diskOf r)) ≡ true →
-      (e : LawDisk) (items : List Item) → answered diskTable (held (partOf b (diskOf r))) (callOf r) ≡ accepted e items →
-      tellOf b r ≡ telling (withPart b (diskOf r) (partFor e)) (tells items) → Case b r
+  isServed : wellFormed r ≡ true → diskNumber r < disks → openAt b (diskNumber r) ≡ true → soundPart (partOf b (diskNumber r)) ≡ true →
+      (e : LawDisk) (items : List Item) → answered diskTable (held (partOf b (diskNumber r))) (callOf r) ≡ accepted e items →
+      effectOf b r ≡ effect (withPart b (diskNumber r) (partFor e)) (accepts items) → Case b r
 
 module _ (b r : List ℕ) (whole : length b ≡ boardBytes) where
   abbrev d : ℕ
-  d = diskOf r
+  d = diskNumber r
 
   -- A refusal on the part leaves the board.
   part-refused : d < disks → (x : Refusal) → onPart b d (refusing (partOf b d) x) ≡ refusing b x
   part-refused known x = ap (λ (c : List ℕ). refusing c x) (with-same b d whole known)
 
   open-case : wellFormed r ≡ true → d < disks → openAt b d ≡ false →
-      tellOf b r ≡ opening b d (openDisk (nowOf r) (usedLimit r) (promisedLimit r)) → Case b r
+      effectOf b r ≡ opening b d (openDisk (nowOf r) (usedLimit r) (promisedLimit r)) → Case b r
   unfolding openDisk
   open-case w known o =
-      by-rules (λ z. tellOf b r ≡ opening b d z → Case b r) (openRefusals (usedLimit r) (promisedLimit r))
+      by-rules (λ z. effectOf b r ≡ opening b d z → Case b r) (openRefusals (usedLimit r) (promisedLimit r))
       (accepted (opened (nowOf r) (usedLimit r) (promisedLimit r)) (item 3 0 ∷ [])) (λ n e. isRefused (refusalOf n) e)
       (λ ok e.
       let p = passed (leb (usedLimit r) mostError ∷ leb (promisedLimit r) mostError ∷ []) (not-false _ (ok .0)) in
       isOpened w known o (leb-true (usedLimit r) mostError (p .0)) (leb-true (promisedLimit r) mostError (p .1 .0)) e)
 
   serve-case : wellFormed r ≡ true → d < disks → openAt b d ≡ true →
-      tellOf b r ≡ onPart b d (serveOf (partOf b d) (callOf r)) → Case b r
+      effectOf b r ≡ onPart b d (serveOf (partOf b d) (callOf r)) → Case b r
   serve-case w known o =
-      by-serve (λ t. tellOf b r ≡ onPart b d t → Case b r) (partOf b d) (callOf r)
+      by-serve (λ t. effectOf b r ≡ onPart b d t → Case b r) (partOf b d) (callOf r)
       (λ e. isRefused R.Unsound (e ∙ part-refused known R.Unsound))
       (λ s. served s (answered diskTable (held (partOf b d)) (callOf r)) refl)
     where
       served : soundPart (partOf b d) ≡ true → (z : Outcome) → answered diskTable (held (partOf b d)) (callOf r) ≡ z →
-          tellOf b r ≡ onPart b d (settled (partOf b d) z) → Case b r
+          effectOf b r ≡ onPart b d (settled (partOf b d) z) → Case b r
       served s (refused n) q e = isRefused (refusalOf n) (e ∙ part-refused known (refusalOf n))
       served s (accepted f items) q e = isServed w known o s f items q e
 
-  pub told-case : Case b r
-  told-case = by-tell (λ t. tellOf b r ≡ t → Case b r) b r isRefused open-case serve-case refl
+  pub effect-case : Case b r
+  effect-case = by-effect (λ t. effectOf b r ≡ t → Case b r) b r isRefused open-case serve-case refl
 
 -- ---- a well-formed record holds a readable call
 
 pub call-readable : (r : List ℕ) → Bytes r → wellFormed r ≡ true → ReadableCall (callOf r)
-unfolding askedOf
+unfolding askedIn
 call-readable r bs w =
     by-call ReadableCall r (record { priority = omega (arith, bs 5); flag = says-formed r .0 w .flag }) tt
 
 -- ---- an accepted call sets the clock to now
 
-abbrev pub nowIn : LawCall → ℕ
+abbrev pub nowIn : Call → ℕ
 nowIn (claims q) = q .now
 nowIn (releases now n) = now
 
-pub clock-set : (d : LawDisk) (k : LawCall) → After (λ e items. e .core .clock ≡ nowIn k) (answered diskTable d k)
+pub clock-set : (d : LawDisk) (k : Call) → After (λ e items. e .core .clock ≡ nowIn k) (answered diskTable d k)
 unfolding grant finish
 clock-set d (claims q) = claim-after diskTable (λ e items. e .core .clock ≡ q .now) d q (λ ok g. refl) (λ ok g. refl)
 clock-set d (releases now n) =
@@ -102,7 +102,7 @@ clock-set d (releases now n) =
     (without n (d .waiting)) refl)
 
 pub call-now : (r : List ℕ) → nowIn (callOf r) ≡ nowOf r
-unfolding askedOf
+unfolding askedIn
 call-now r = by-call (λ k. nowIn k ≡ nowOf r) r refl refl
 
 pub now-fits : (r : List ℕ) → Bytes r → nowOf r < 2 ^ 32

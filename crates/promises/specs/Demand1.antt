@@ -8,17 +8,17 @@ use native.Mathlib.Omega.{arith}
 use lib.ListN.{replicate}
 use Rattle.num.specs.Runs.{le4}
 use Rattle.law.specs.Sentences.{FirstHolds}
-use Rattle.desk.specs.Record.{kindOf}
-use Rattle.desk.specs.Step.{ownOf, tellOf, stepOf}
+use Rattle.desk.specs.Record.{kindByte}
+use Rattle.desk.specs.Step.{ownOf, effectOf, stepOf}
 use Rattle.promises.specs.Sentences.{NoneHold, GrantsIn, sentences}
-use Rattle.promises.specs.RefusalLaws.{code-exactly, first-least, nine-only, answer-ends, by-lengths, tell-leaves, said-answers}
+use Rattle.promises.specs.RefusalLaws.{code-exactly, first-least, nine-only, answer-ends, by-lengths, effect-leaves, said-answers}
 use Rattle.promises.specs.AcceptLaws.{none-first, first-none, Ends, ends, ends-opened, ends-granted, ends-waits, ends-released}
 
 -- Every call ends in granted, waits, released or opened (0 to 3), or in a refusal (9 to 21).
 pub every-call-ends : (b r a : List ℕ) → (stepOf b r a .code ≤ 3) ⊎ ((9 ≤ stepOf b r a .code) × (stepOf b r a .code ≤ 21))
 every-call-ends b r a =
     by-lengths b r a (λ s. (s .code ≤ 3) ⊎ ((9 ≤ s .code) × (s .code ≤ 21)))
-    (λ w v. answer-ends (ownOf (tellOf b r .said)))
+    (λ w v. answer-ends (ownOf (effectOf b r .said)))
     (inr (omega arith, omega arith))
 
 -- Each refusal n is given exactly when its sentence holds and none before it does (`Sentences` has them in order).
@@ -48,22 +48,22 @@ module _ (b r a : List ℕ) where
     λ h. case (ends b r a (h .0) (accepted-exactly b r a .1 (h .0))) .1 (h .1),
   )
 
-  pub granted-exactly : (stepOf b r a .code ≡ 0) ↔ (NoneHold (sentences b r a) × ((kindOf r ≡ 2) × GrantsIn b r))
+  pub granted-exactly : (stepOf b r a .code ≡ 0) ↔ (NoneHold (sentences b r a) × ((kindByte r ≡ 2) × GrantsIn b r))
   granted-exactly = among 0 (omega arith) (ends-granted b r (stepOf b r a .code))
 
-  pub waits-exactly : (stepOf b r a .code ≡ 1) ↔ (NoneHold (sentences b r a) × ((kindOf r ≡ 2) × (GrantsIn b r → ⊥)))
+  pub waits-exactly : (stepOf b r a .code ≡ 1) ↔ (NoneHold (sentences b r a) × ((kindByte r ≡ 2) × (GrantsIn b r → ⊥)))
   waits-exactly = among 1 (omega arith) (ends-waits b r (stepOf b r a .code))
 
-  pub released-exactly : (stepOf b r a .code ≡ 2) ↔ (NoneHold (sentences b r a) × (kindOf r ≡ 3))
+  pub released-exactly : (stepOf b r a .code ≡ 2) ↔ (NoneHold (sentences b r a) × (kindByte r ≡ 3))
   released-exactly = among 2 (omega arith) (ends-released b r (stepOf b r a .code))
 
-  pub opened-exactly : (stepOf b r a .code ≡ 3) ↔ (NoneHold (sentences b r a) × (kindOf r ≡ 1))
+  pub opened-exactly : (stepOf b r a .code ≡ 3) ↔ (NoneHold (sentences b r a) × (kindByte r ≡ 1))
   opened-exactly = among 3 (omega arith) (ends-opened b r (stepOf b r a .code))
 
 -- A refusal leaves the board as it was, every byte of it.
 pub refusal-leaves-board : (b r a : List ℕ) → 9 ≤ stepOf b r a .code → stepOf b r a .bytes ≡ b
 refusal-leaves-board b r a =
-    by-lengths b r a (λ s. 9 ≤ s .code → s .bytes ≡ b) (λ w v. tell-leaves b r w) (λ h. refl)
+    by-lengths b r a (λ s. 9 ≤ s .code → s .bytes ≡ b) (λ w v. effect-leaves b r w) (λ h. refl)
 
 -- Refusal 9 leaves the answer buffer as it was too.
 pub refusal-leaves-answer : (b r a : List ℕ) → stepOf b r a .code ≡ 9 → stepOf b r a .answer ≡ a
@@ -77,5 +77,5 @@ pub refusal-answers : (b r a : List ℕ) → 9 < stepOf b r a .code →
     stepOf b r a .answer ≡ le4 (stepOf b r a .code) ++ replicate 140 0
 refusal-answers b r a =
     by-lengths b r a (λ s. 9 < s .code → s .answer ≡ le4 (s .code) ++ replicate 140 0)
-    (λ w v h. said-answers (tellOf b r .said) (omega arith))
+    (λ w v h. said-answers (effectOf b r .said) (omega arith))
     (λ h. absurd (omega arith))

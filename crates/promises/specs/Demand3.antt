@@ -20,24 +20,24 @@ use Rattle.law.specs.Calls.{withGrant}
 use Rattle.law.specs.Sound.{claimsOn}
 use Rattle.law.specs.History.{claims, answered}
 use Rattle.law.specs.GrantedAtOnce.{Reading, Free, readingItem, granted-at-once as law-granted-at-once}
-use Rattle.law.specs.Kept.{Once}
+use Rattle.law.specs.Invariant.{Once}
 use Rattle.law.specs.ReaderBound.{Bounded, reader-bound, granted-once as law-granted-once}
 use Rattle.law.specs.DiskType.{diskTable}
 use Rattle.answer.specs.declared.Answer.the-variants as A
 use Rattle.answer.specs.Answers.{codeOf, answerBytes, answerSize}
-use Rattle.desk.specs.Record.{byteAt, kindOf as kindByte, diskOf, askedOf, callOf}
+use Rattle.desk.specs.Record.{byteAt, kindByte, diskNumber, askedIn, callOf}
 use Rattle.desk.specs.Board.{disks, boardBytes, partOf, withPart}
 use Rattle.part.specs.Held.{held, partFor, soundPart}
-use Rattle.desk.specs.Step.{answerOf, ownOf, grantsOf, tells, telling, serveOf, onBoard, tellOf, Stepped, written, stepOf}
+use Rattle.desk.specs.Step.{answerOf, ownOf, grantsOf, accepts, effect, serveOf, onBoard, effectOf, Stepped, written, stepOf}
 use Rattle.promises.specs.Sentences.{WellFormed}
 use Rattle.promises.specs.RefusalLaws.{says-formed}
-use Rattle.promises.specs.Histories.{Call, BytesIn, stepBy, saidBy, begun, lived}
+use Rattle.promises.specs.Histories.{BoardCall, BytesIn, stepBy, saidBy, begun, lived}
 use Rattle.promises.specs.LifeLaws.{empty-shut, whole-begun, whole-lived, by-life, open-sound}
 use Rattle.promises.specs.Asks.{claimed, took, AsAsked, Stated, WasGranted}
 use Rattle.promises.specs.SomeLaws.{some-say}
 use Rattle.promises.specs.AskedLaws.{lived-asked}
 use Rattle.promises.specs.ToldLaws.{lived-granted}
-use Rattle.promises.specs.TicketLaws.{lived-rises}
+use Rattle.promises.specs.TakenLaws.{lived-rises}
 
 -- ---- first half: a reading can rely on what it was told, as long as it is held
 
@@ -53,24 +53,24 @@ Relies p i =
     (held p .core .active)
 
 -- For any calls from the empty board, refused ones and calls on other disks among them, and any disk d: it holds for all that was said on d.
-pub told-bound : (ks : List Call) → All BytesIn ks → (d : ℕ) → d < disks →
+pub told-bound : (ks : List BoardCall) → All BytesIn ks → (d : ℕ) → d < disks →
     All (Relies (partOf (lived begun ks .board) d)) (lived begun ks .past d)
 told-bound ks bs d h =
     by-life ks bs d h (λ e past. All (Bounded diskTable (e .core)) past) (λ o e. tt)
     (λ l. reader-bound diskTable (l .now) (l .limit0) (l .limit1) (l .calls))
 
 -- Disk and ticket name a reading for all time: no ticket of a disk is granted twice.
-pub granted-once : (ks : List Call) → All BytesIn ks → (d : ℕ) → d < disks → Pairs Once (lived begun ks .past d)
+pub granted-once : (ks : List BoardCall) → All BytesIn ks → (d : ℕ) → d < disks → Pairs Once (lived begun ks .past d)
 granted-once ks bs d h =
     by-life ks bs d h (λ e past. Pairs Once past) (λ o e. tt) (λ l. law-granted-once diskTable (l .now) (l .limit0) (l .limit1) (l .calls))
 
 -- All claims take different tickets: of any two calls whose own answer, on that disk, grants a claim or lets it wait, the later one took
 -- the higher ticket.
-pub tickets-once : (ks : List Call) → All BytesIn ks → (d : ℕ) → d < disks → Pairs _<_ (took begun ks d)
+pub tickets-once : (ks : List BoardCall) → All BytesIn ks → (d : ℕ) → d < disks → Pairs _<_ (took begun ks d)
 tickets-once ks bs d h = lived-rises begun ks bs whole-begun d h .apart
 
 -- And every reading that is active was granted by an item that was said, with the told sum that stands on the board: none is left out.
-pub readings-told : (ks : List Call) → All BytesIn ks → (d : ℕ) → d < disks → openAt (lived begun ks .board) d ≡ true →
+pub readings-told : (ks : List BoardCall) → All BytesIn ks → (d : ℕ) → d < disks → openAt (lived begun ks .board) d ≡ true →
     All (WasGranted (lived begun ks .past d)) (held (partOf (lived begun ks .board) d) .core .active)
 readings-told ks bs d h on =
     by-life ks bs d h (λ e past. All (WasGranted past) (e .core .active)) (λ off e. absurd (true≢false (sym on ∙ off)))
@@ -80,15 +80,15 @@ readings-told ks bs d h on =
 
 -- After any calls from the empty board: every claim of an open disk, active or waiting, is one that a record claimed, with the
 -- ticket that it took then, and but for told and amount as that record asks.
-pub claims-as-asked : (ks : List Call) → All BytesIn ks → (d : ℕ) → d < disks → openAt (lived begun ks .board) d ≡ true →
+pub claims-as-asked : (ks : List BoardCall) → All BytesIn ks → (d : ℕ) → d < disks → openAt (lived begun ks .board) d ≡ true →
     All (AsAsked (claimed begun ks d)) (claimsOn (held (partOf (lived begun ks .board) d)))
 claims-as-asked ks bs =
     lived-asked begun ks bs whole-begun (λ d. []) (λ d l o. absurd (true≢false (sym o ∙ empty-shut d l)))
 
 -- So the limit by which `told-bound` binds is the one that the reading's record states in bytes 20–23.
-pub limit-stated : (ks : List Call) → All BytesIn ks → (d : ℕ) → d < disks → openAt (lived begun ks .board) d ≡ true →
+pub limit-stated : (ks : List BoardCall) → All BytesIn ks → (d : ℕ) → d < disks → openAt (lived begun ks .board) d ≡ true →
     All (Stated (claimed begun ks d)) (claimsOn (held (partOf (lived begun ks .board) d)))
-unfolding askedOf
+unfolding askedIn
 limit-stated ks bs d l o =
     all-say (AsAsked (claimed begun ks d)) (Stated (claimed begun ks d))
     (λ c h. some-say (λ x q. (ap (λ (e : Claim). e .ticket) q, ap (λ (e : Claim). e .error) q)) (claimed begun ks d) h)
@@ -98,7 +98,7 @@ limit-stated ks bs d l o =
 -- ---- and what was said is what the answer buffer showed
 
 -- The call returns its own answer's code; its own answer and the grants of its pass stand in the buffer, all else zero.
-pub answer-shows : (b : List ℕ) (k : Call) → length b ≡ boardBytes → length (k .buffer) ≡ answerSize →
+pub answer-shows : (b : List ℕ) (k : BoardCall) → length b ≡ boardBytes → length (k .buffer) ≡ answerSize →
     (stepBy b k .code ≡ codeOf (ownOf (saidBy b k)))
     × (stepBy b k .answer ≡ answerBytes (ownOf (saidBy b k)) (grantsOf (saidBy b k)))
 unfolding stepOf saidBy
@@ -120,7 +120,7 @@ wait-shows i e = rw e
 pub record AsksReading (r : List ℕ) (m : ℕ) : Type 0 where
   pub formed : WellFormed r
   pub claims : kindByte r ≡ 2
-  pub disk : diskOf r < 64
+  pub disk : diskNumber r < 64
   pub method : byteAt r 4 < 7
   pub reading : kindAt diskTable (byteAt r 4) ≡ reads m
   pub measured : wordAt r 12 ≡ 0
@@ -128,14 +128,14 @@ pub record AsksReading (r : List ℕ) (m : ℕ) : Type 0 where
   pub stated : wordAt r 20 ≤ 2_000_000_000
 
 -- The law's reading of such a record.
-asks : (r : List ℕ) (m : ℕ) → AsksReading r m → Reading diskTable (askedOf r) m
-unfolding askedOf diskTable
+asks : (r : List ℕ) (m : ℕ) → AsksReading r m → Reading diskTable (askedIn r) m
+unfolding askedIn diskTable
 asks r m h = record { method = h .method; kind = h .reading; value = h .value; measured = h .measured; stated = h .stated }
 
 -- After any calls ks from the empty board comes the call k, a reading on an open disk. Under exactly the mission's conditions (`Free`, in
 -- law's GrantedAtOnce: the clock, a ticket, a place, no writer of what it reads active or ahead, a carried error that it bears, fresh figures
 -- if it asked for that) it is granted in its own call: code 0, told the present sum, its amount the error that the figures carry.
-module _ (ks : List Call) (bs : All BytesIn ks) (k : Call) (room : length (k .buffer) ≡ 144) where
+module _ (ks : List BoardCall) (bs : All BytesIn ks) (k : BoardCall) (room : length (k .buffer) ≡ 144) where
   -- The board that the calls have left, the record, and the record's disk as the board has it.
   abbrev b : List ℕ
   b = lived begun ks .board
@@ -144,29 +144,29 @@ module _ (ks : List Call) (bs : All BytesIn ks) (k : Call) (room : length (k .bu
   r = k .asks
 
   abbrev d : LawDisk
-  d = held (partOf b (diskOf r))
+  d = held (partOf b (diskNumber r))
 
-  pub granted-at-once : (m : ℕ) → AsksReading r m → openAt b (diskOf r) ≡ true → Free diskTable d (askedOf r) m →
+  pub granted-at-once : (m : ℕ) → AsksReading r m → openAt b (diskNumber r) ≡ true → Free diskTable d (askedIn r) m →
       (stepBy b k .code ≡ 0)
       × (stepBy b k .answer
       ≡ answerBytes (A.Granted (d .next) (present (d .core .figures) m) (carried (d .core .figures) m)) [])
-  unfolding stepOf tellOf onBoard serveOf answerOf
+  unfolding stepOf effectOf onBoard serveOf answerOf
   granted-at-once m q o c =
       (ap (λ (s : Stepped). s .code) step, ap (λ (s : Stepped). s .answer) step)
     where
-      sound : soundPart (partOf b (diskOf r)) ≡ true
-      sound = open-sound ks bs (diskOf r) (q .disk) o
+      sound : soundPart (partOf b (diskNumber r)) ≡ true
+      sound = open-sound ks bs (diskNumber r) (q .disk) o
 
-      outcome : answered diskTable d (callOf r) ≡ accepted (withGrant diskTable d (askedOf r)) (readingItem d m ∷ [])
-      outcome = rw (eq-eqb (kindByte r) 2 (q .claims)) (law-granted-at-once diskTable d (askedOf r) m (asks r m (q)) c)
+      outcome : answered diskTable d (callOf r) ≡ accepted (withGrant diskTable d (askedIn r)) (readingItem d m ∷ [])
+      outcome = rw (eq-eqb (kindByte r) 2 (q .claims)) (law-granted-at-once diskTable d (askedIn r) m (asks r m (q)) c)
 
       not-open : eqb (kindByte r) 1 ≡ false
       not-open = rw (q .claims)
 
-      told : tellOf b r ≡ telling (withPart b (diskOf r) (partFor (withGrant diskTable d (askedOf r)))) (tells (readingItem d m ∷ []))
-      told = rw (says-formed r .1 (q .formed), lt-leb disks (diskOf r) (q .disk), not-open, o, sound, outcome)
+      told : effectOf b r ≡ effect (withPart b (diskNumber r) (partFor (withGrant diskTable d (askedIn r)))) (accepts (readingItem d m ∷ []))
+      told = rw (says-formed r .1 (q .formed), lt-leb disks (diskNumber r) (q .disk), not-open, o, sound, outcome)
 
-      step : stepBy b k ≡ written (telling (withPart b (diskOf r) (partFor (withGrant diskTable d (askedOf r)))) (tells (readingItem d m ∷ [])))
+      step : stepBy b k ≡ written (effect (withPart b (diskNumber r) (partFor (withGrant diskTable d (askedIn r)))) (accepts (readingItem d m ∷ [])))
       step =
           rw (eq-eqb (length b) boardBytes (whole-lived begun ks bs whole-begun .size), eq-eqb (length (k .buffer)) answerSize room)
           (ap written told)

@@ -8,40 +8,40 @@ use Rattle.num.specs.Word.{Bytes}
 use Rattle.law.specs.Types.{Item}
 use Rattle.answer.specs.Answers.{answerSize}
 use Rattle.answer.specs.declared.Refusal.the-variants as R
-use Rattle.desk.specs.Record.{diskOf}
+use Rattle.desk.specs.Record.{diskNumber}
 use Rattle.desk.specs.Board.{boardBytes}
-use Rattle.desk.specs.Step.{Said, refuses, tells, tellOf, Stepped, stepOf}
+use Rattle.desk.specs.Step.{Said, refuses, accepts, effectOf, Stepped, stepOf}
 
 -- All zeros is the empty board.
 abbrev pub emptyBoard : List ℕ
 emptyBoard = replicate boardBytes 0
 
 -- What a call hands in besides the board: the bytes of a record and of an answer buffer.
-pub record Call : Type 0 where
+pub record BoardCall : Type 0 where
   pub asks : List ℕ
   pub buffer : List ℕ
 
 -- The record is bytes: each of its numbers is below 256.
-abbrev pub BytesIn : Call → Type 0
+abbrev pub BytesIn : BoardCall → Type 0
 BytesIn k = Bytes (k .asks)
 
 -- The call's code, and board and answer buffer after it.
-abbrev pub stepBy : List ℕ → Call → Stepped
+abbrev pub stepBy : List ℕ → BoardCall → Stepped
 stepBy b k = stepOf b (k .asks) (k .buffer)
 
 -- What the call says: its items, each with the error that the figures carried at that grant, or a refusal.
-unfoldable pub saidBy : List ℕ → Call → Said
+unfoldable pub saidBy : List ℕ → BoardCall → Said
 saidBy b k =
-    cond (eqb (length b) boardBytes && eqb (length (k .buffer)) answerSize) (tellOf b (k .asks) .said) (refuses R.Length)
+    cond (eqb (length b) boardBytes && eqb (length (k .buffer)) answerSize) (effectOf b (k .asks) .said) (refuses R.Length)
 
 -- A refusal has no items.
 abbrev pub itemsIn : Said → List Item
 itemsIn (refuses r) = []
-itemsIn (tells items) = items
+itemsIn (accepts items) = items
 
 -- The items that a call says on disk d.
-abbrev pub itemsOn : List ℕ → Call → ℕ → List Item
-itemsOn b k d = cond (eqb d (diskOf (k .asks))) (itemsIn (saidBy b k)) []
+abbrev pub itemsOn : List ℕ → BoardCall → ℕ → List Item
+itemsOn b k d = cond (eqb d (diskNumber (k .asks))) (itemsIn (saidBy b k)) []
 
 -- A board, and for each disk the items said on it so far.
 pub record History : Type 0 where
@@ -53,10 +53,10 @@ abbrev pub begun : History
 begun = record { board = emptyBoard; past = λ d. [] }
 
 -- One call more: the board that it leaves, and what it says behind what was said.
-abbrev pub after : History → Call → History
+abbrev pub after : History → BoardCall → History
 after h k = record { board = stepBy (h .board) k .bytes; past = λ d. h .past d ++ itemsOn (h .board) k d }
 
 -- The history after a list of calls.
-unfoldable pub lived : History → List Call → History
+unfoldable pub lived : History → List BoardCall → History
 lived h [] = h
 lived h (k ∷ ks) = lived (after h k) ks

@@ -19,15 +19,15 @@ use Rattle.law.specs.DiskType.{diskTable}
 use Rattle.answer.specs.declared.Refusal.the-variants as R
 use Rattle.answer.specs.Answers.{codeOf, answerBytes, answerSize}
 use Rattle.answer.specs.AnswerLaws.{number-range}
-use Rattle.desk.specs.Record.{kindOf, wellFormed, diskOf, nowOf, callOf, usedLimit, promisedLimit}
+use Rattle.desk.specs.Record.{kindByte, wellFormed, diskNumber, nowOf, callOf, usedLimit, promisedLimit}
 use Rattle.desk.specs.Board.{disks, boardBytes, partOf, withPart}
 use Rattle.desk.specs.BoardLaws.{length-with, bytes-with, part-same, part-other, part-open, open-with, byte-before}
 use Rattle.part.specs.Held.{held, partFor}
-use Rattle.desk.specs.Step.{Said, ownOf, grantsOf, Told, telling, refusing, serveOf, onPart, opening, onDisk, onBoard, tellOf, written, stepped, stepOf}
+use Rattle.desk.specs.Step.{Said, ownOf, grantsOf, Effect, effect, refusing, serveOf, onPart, opening, onDisk, onBoard, effectOf, written, stepped, stepOf}
 use Rattle.part.specs.PartLaws.{held-part, part-sound, bytes-part-for}
 use Rattle.promises.specs.Sentences.{SoundPart}
 use Rattle.promises.specs.RefusalLaws.{says-sound-part, by-lengths}
-use Rattle.promises.specs.CaseLaws.{Case, isRefused, isOpened, isServed, told-case, now-fits, opened-sound, opened-now, opened-size, served-sound, served-now, served-size}
+use Rattle.promises.specs.CaseLaws.{Case, isRefused, isOpened, isServed, effect-case, now-fits, opened-sound, opened-now, opened-size, served-sound, served-now, served-size}
 
 -- ---- no accepted call leaves an unsound part
 
@@ -39,43 +39,43 @@ module _ (b r a : List ℕ) (bs : Bytes r) where
     clock : disk .core .clock ≡ nowOf r
     is : p ≡ partFor disk
 
-  left : stepOf b r a .code ≤ 3 → Left (partOf (stepOf b r a .bytes) (diskOf r))
+  left : stepOf b r a .code ≤ 3 → Left (partOf (stepOf b r a .bytes) (diskNumber r))
   left =
-      by-lengths b r a (λ s. s .code ≤ 3 → Left (partOf (s .bytes) (diskOf r))) (λ n m. told n (told-case b r n))
+      by-lengths b r a (λ s. s .code ≤ 3 → Left (partOf (s .bytes) (diskNumber r))) (λ n m. told n (effect-case b r n))
       (λ h. absurd (omega arith))
     where
-      told : length b ≡ boardBytes → Case b r → written (tellOf b r) .code ≤ 3 → Left (partOf (tellOf b r .bytes) (diskOf r))
-      told n (isRefused x t) h = absurd (omega (arith, h, ap (λ (y : Told). written y .code) t, number-range x .0))
+      told : length b ≡ boardBytes → Case b r → written (effectOf b r) .code ≤ 3 → Left (partOf (effectOf b r .bytes) (diskNumber r))
+      told n (isRefused x t) h = absurd (omega (arith, h, ap (λ (y : Effect). written y .code) t, number-range x .0))
       told n (isOpened w known o f0 f1 t) h =
           record {
             disk = opened (nowOf r) (usedLimit r) (promisedLimit r);
             sound = opened-sound r f0 f1;
             clock = opened-now r;
             is =
-                ap (λ (y : Told). partOf (y .bytes) (diskOf r)) t
-                ∙ part-open (withPart b (diskOf r) (partFor (opened (nowOf r) (usedLimit r) (promisedLimit r)))) (diskOf r) (diskOf r) known
-                ∙ part-same b (diskOf r) n known (partFor (opened (nowOf r) (usedLimit r) (promisedLimit r))) (opened-size r);
+                ap (λ (y : Effect). partOf (y .bytes) (diskNumber r)) t
+                ∙ part-open (withPart b (diskNumber r) (partFor (opened (nowOf r) (usedLimit r) (promisedLimit r)))) (diskNumber r) (diskNumber r) known
+                ∙ part-same b (diskNumber r) n known (partFor (opened (nowOf r) (usedLimit r) (promisedLimit r))) (opened-size r);
           }
       told n (isServed w known o s f items q t) h =
           record {
             disk = f;
-            sound = served-sound (partOf b (diskOf r)) r bs w s f items q;
-            clock = served-now (partOf b (diskOf r)) r bs w s f items q;
+            sound = served-sound (partOf b (diskNumber r)) r bs w s f items q;
+            clock = served-now (partOf b (diskNumber r)) r bs w s f items q;
             is =
-                ap (λ (y : Told). partOf (y .bytes) (diskOf r)) t
-                ∙ part-same b (diskOf r) n known (partFor f) (served-size (partOf b (diskOf r)) r bs w s f items q);
+                ap (λ (y : Effect). partOf (y .bytes) (diskNumber r)) t
+                ∙ part-same b (diskNumber r) n known (partFor f) (served-size (partOf b (diskNumber r)) r bs w s f items q);
           }
 
   left-fits : {p : List ℕ} (l : Left p) → l .disk .core .clock < 2 ^ 32
   left-fits l = omega (arith, l .clock, now-fits r bs)
 
   -- Whatever board was lent.
-  pub no-unsound : stepOf b r a .code ≤ 3 → SoundPart (partOf (stepOf b r a .bytes) (diskOf r))
+  pub no-unsound : stepOf b r a .code ≤ 3 → SoundPart (partOf (stepOf b r a .bytes) (diskNumber r))
   no-unsound h =
       let l = left h in subst SoundPart (sym (l .is)) (says-sound-part (partFor (l .disk)) .0 (part-sound (l .disk) (l .sound) (left-fits l)))
 
   -- Accepted calls set the clock to now.
-  pub clock-now : stepOf b r a .code ≤ 3 → held (partOf (stepOf b r a .bytes) (diskOf r)) .core .clock ≡ nowOf r
+  pub clock-now : stepOf b r a .code ≤ 3 → held (partOf (stepOf b r a .bytes) (diskNumber r)) .core .clock ≡ nowOf r
   clock-now h =
       let l = left h in
       ap (λ (p : List ℕ). held p .core .clock) (l .is)
@@ -86,112 +86,112 @@ module _ (b r a : List ℕ) (bs : Bytes r) where
 
   -- The board stays; or the part of the call's disk is another; or that, and its bit is set. What holds of each holds of the board.
   by-change : (P : List ℕ → Type 0) → P b →
-      (length b ≡ boardBytes → diskOf r < disks → (p : List ℕ) → length p ≡ 768 → Bytes p → P (withPart b (diskOf r) p)) →
-      (length b ≡ boardBytes → diskOf r < disks → (p : List ℕ) → length p ≡ 768 → P (withPart b (diskOf r) p) →
-      P (setOpen (withPart b (diskOf r) p) (diskOf r))) →
+      (length b ≡ boardBytes → diskNumber r < disks → (p : List ℕ) → length p ≡ 768 → Bytes p → P (withPart b (diskNumber r) p)) →
+      (length b ≡ boardBytes → diskNumber r < disks → (p : List ℕ) → length p ≡ 768 → P (withPart b (diskNumber r) p) →
+      P (setOpen (withPart b (diskNumber r) p) (diskNumber r))) →
       P (stepOf b r a .bytes)
-  by-change P none part opens = by-lengths b r a (λ s. P (s .bytes)) (λ n m. told n (told-case b r n)) none
+  by-change P none part opens = by-lengths b r a (λ s. P (s .bytes)) (λ n m. told n (effect-case b r n)) none
     where
       first : LawDisk
       first = opened (nowOf r) (usedLimit r) (promisedLimit r)
 
-      told : length b ≡ boardBytes → Case b r → P (tellOf b r .bytes)
-      told n (isRefused x t) = subst (λ (y : Told). P (y .bytes)) (sym t) none
+      told : length b ≡ boardBytes → Case b r → P (effectOf b r .bytes)
+      told n (isRefused x t) = subst (λ (y : Effect). P (y .bytes)) (sym t) none
       told n (isOpened w known o f0 f1 t) =
-          subst (λ (y : Told). P (y .bytes)) (sym t)
+          subst (λ (y : Effect). P (y .bytes)) (sym t)
           (opens n known (partFor first) (opened-size r) (part n known (partFor first) (opened-size r) (bytes-part-for first)))
       told n (isServed w known o s f items q t) =
-          subst (λ (y : Told). P (y .bytes)) (sym t)
-          (part n known (partFor f) (served-size (partOf b (diskOf r)) r bs w s f items q) (bytes-part-for f))
+          subst (λ (y : Effect). P (y .bytes)) (sym t)
+          (part n known (partFor f) (served-size (partOf b (diskNumber r)) r bs w s f items q) (bytes-part-for f))
 
   -- The other disks' parts.
-  pub other-parts : (e : ℕ) → e < disks → e ≢ diskOf r → partOf (stepOf b r a .bytes) e ≡ partOf b e
+  pub other-parts : (e : ℕ) → e < disks → e ≢ diskNumber r → partOf (stepOf b r a .bytes) e ≡ partOf b e
   other-parts e l n =
       by-change (λ c. partOf c e ≡ partOf b e) refl
-      (λ size known p full bytes. part-other b (diskOf r) size known p full e l n)
-      (λ size known p full same. part-open (withPart b (diskOf r) p) (diskOf r) e known ∙ same)
+      (λ size known p full bytes. part-other b (diskNumber r) size known p full e l n)
+      (λ size known p full same. part-open (withPart b (diskNumber r) p) (diskNumber r) e known ∙ same)
 
   -- Their open bits.
-  pub other-bits : (e : ℕ) → e < disks → e ≢ diskOf r → openAt (stepOf b r a .bytes) e ≡ openAt b e
+  pub other-bits : (e : ℕ) → e < disks → e ≢ diskNumber r → openAt (stepOf b r a .bytes) e ≡ openAt b e
   other-bits e l n =
       by-change (λ c. openAt c e ≡ openAt b e) refl
-      (λ size known p full bytes. open-with b (diskOf r) size known p full e l)
+      (λ size known p full bytes. open-with b (diskNumber r) size known p full e l)
       (λ size known p full same.
-      open-set-other (withPart b (diskOf r) p) (diskOf r) known (omega (arith, length-with b (diskOf r) size known p full)) e n
+      open-set-other (withPart b (diskNumber r) p) (diskNumber r) known (omega (arith, length-with b (diskNumber r) size known p full)) e n
       ∙ same)
 
   -- Bytes 8 to 63 of the head.
   pub head-stays : (k : ℕ) → 8 ≤ k → k < 64 → getD (stepOf b r a .bytes) k 0 ≡ getD b k 0
   head-stays k l u =
       by-change (λ c. getD c k 0 ≡ getD b k 0) refl
-      (λ size known p full bytes. byte-before b (diskOf r) size known p full k (omega arith))
-      (λ size known p full same. byte-set-open (withPart b (diskOf r) p) (diskOf r) k (λ e. omega (arith, known)) ∙ same)
+      (λ size known p full bytes. byte-before b (diskNumber r) size known p full k (omega arith))
+      (λ size known p full same. byte-set-open (withPart b (diskNumber r) p) (diskNumber r) k (λ e. omega (arith, known)) ∙ same)
 
   -- And the board keeps its length.
   pub size-stays : length (stepOf b r a .bytes) ≡ length b
   size-stays =
       by-change (λ c. length c ≡ length b) refl
-      (λ size known p full bytes. length-with b (diskOf r) size known p full ∙ sym size)
-      (λ size known p full same. length-set-open (withPart b (diskOf r) p) (diskOf r) ∙ same)
+      (λ size known p full bytes. length-with b (diskNumber r) size known p full ∙ sym size)
+      (λ size known p full same. length-set-open (withPart b (diskNumber r) p) (diskNumber r) ∙ same)
 
   -- Bytes stay bytes.
   pub bytes-stay : Bytes b → Bytes (stepOf b r a .bytes)
   bytes-stay h =
-      by-change Bytes h (λ size known p full bytes. bytes-with b (diskOf r) size known p full h bytes)
-      (λ size known p full bytes. bytes-set-open (withPart b (diskOf r) p) (diskOf r) bytes)
+      by-change Bytes h (λ size known p full bytes. bytes-with b (diskNumber r) size known p full h bytes)
+      (λ size known p full bytes. bytes-set-open (withPart b (diskNumber r) p) (diskNumber r) bytes)
 
 -- ---- a call reads nothing of the board but its own disk's bit and part
 
 module _ (b c r a : List ℕ) (same : length b ≡ length c) where
-  opening-said : (o : Outcome) → opening b (diskOf r) o .said ≡ opening c (diskOf r) o .said
+  opening-said : (o : Outcome) → opening b (diskNumber r) o .said ≡ opening c (diskNumber r) o .said
   opening-said (refused n) = refl
   opening-said (accepted d items) = refl
 
-  disk-said : openAt b (diskOf r) ≡ openAt c (diskOf r) → partOf b (diskOf r) ≡ partOf c (diskOf r) →
-      onDisk b r (diskOf r) .said ≡ onDisk c r (diskOf r) .said
-  disk-said o p = rw (o, p) (go (eqb (kindOf r) 1) (openAt c (diskOf r)) (serveOf (partOf c (diskOf r)) (callOf r)))
+  disk-said : openAt b (diskNumber r) ≡ openAt c (diskNumber r) → partOf b (diskNumber r) ≡ partOf c (diskNumber r) →
+      onDisk b r (diskNumber r) .said ≡ onDisk c r (diskNumber r) .said
+  disk-said o p = rw (o, p) (go (eqb (kindByte r) 1) (openAt c (diskNumber r)) (serveOf (partOf c (diskNumber r)) (callOf r)))
     where
       outcome : Outcome
       outcome = openDisk (nowOf r) (usedLimit r) (promisedLimit r)
 
-      go : (opens isOpen : Bool) (t : Told) →
-          cond opens (cond isOpen (refusing b R.Open) (opening b (diskOf r) outcome))
-          (cond isOpen (onPart b (diskOf r) t) (refusing b R.Closed)) .said
-          ≡ cond opens (cond isOpen (refusing c R.Open) (opening c (diskOf r) outcome))
-          (cond isOpen (onPart c (diskOf r) t) (refusing c R.Closed)) .said
+      go : (opens isOpen : Bool) (t : Effect) →
+          cond opens (cond isOpen (refusing b R.Open) (opening b (diskNumber r) outcome))
+          (cond isOpen (onPart b (diskNumber r) t) (refusing b R.Closed)) .said
+          ≡ cond opens (cond isOpen (refusing c R.Open) (opening c (diskNumber r) outcome))
+          (cond isOpen (onPart c (diskNumber r) t) (refusing c R.Closed)) .said
       go true true t = refl
       go true false t = opening-said outcome
       go false true t = refl
       go false false t = refl
 
-  said-same : (diskOf r < disks → openAt b (diskOf r) ≡ openAt c (diskOf r)) → (diskOf r < disks → partOf b (diskOf r) ≡ partOf c (diskOf r)) →
-      tellOf b r .said ≡ tellOf c r .said
-  unfolding tellOf onBoard
-  said-same o p = go (wellFormed r) (leb disks (diskOf r)) refl
+  said-same : (diskNumber r < disks → openAt b (diskNumber r) ≡ openAt c (diskNumber r)) → (diskNumber r < disks → partOf b (diskNumber r) ≡ partOf c (diskNumber r)) →
+      effectOf b r .said ≡ effectOf c r .said
+  unfolding effectOf onBoard
+  said-same o p = go (wellFormed r) (leb disks (diskNumber r)) refl
     where
-      go : (formed far : Bool) → leb disks (diskOf r) ≡ far →
-          cond formed (cond far (refusing b R.Disk) (onDisk b r (diskOf r))) (refusing b R.Record) .said
-          ≡ cond formed (cond far (refusing c R.Disk) (onDisk c r (diskOf r))) (refusing c R.Record) .said
+      go : (formed far : Bool) → leb disks (diskNumber r) ≡ far →
+          cond formed (cond far (refusing b R.Disk) (onDisk b r (diskNumber r))) (refusing b R.Record) .said
+          ≡ cond formed (cond far (refusing c R.Disk) (onDisk c r (diskNumber r))) (refusing c R.Record) .said
       go false far e = refl
       go true true e = refl
-      go true false e = let known = leb-false disks (diskOf r) e in disk-said (o known) (p known)
+      go true false e = let known = leb-false disks (diskNumber r) e in disk-said (o known) (p known)
 
   -- Whatever else two boards of one length hold, the call returns and answers the same.
-  pub reads-own : (diskOf r < disks → openAt b (diskOf r) ≡ openAt c (diskOf r)) → (diskOf r < disks → partOf b (diskOf r) ≡ partOf c (diskOf r)) →
+  pub reads-own : (diskNumber r < disks → openAt b (diskNumber r) ≡ openAt c (diskNumber r)) → (diskNumber r < disks → partOf b (diskNumber r) ≡ partOf c (diskNumber r)) →
       (stepOf b r a .code ≡ stepOf c r a .code) × (stepOf b r a .answer ≡ stepOf c r a .answer)
   unfolding stepOf
   reads-own o p =
       rw same
-      (go (eqb (length c) boardBytes && eqb (length a) answerSize) (tellOf b r .said) (tellOf c r .said) (said-same o p))
+      (go (eqb (length c) boardBytes && eqb (length a) answerSize) (effectOf b r .said) (effectOf c r .said) (said-same o p))
     where
       go : (v : Bool) (x y : Said) → x ≡ y →
-          (cond v (written (telling (tellOf b r .bytes) x)) (stepped 9 b a) .code ≡ cond v (written (telling (tellOf c r .bytes) y)) (stepped 9 c a) .code)
-          × (cond v (written (telling (tellOf b r .bytes) x)) (stepped 9 b a) .answer
-          ≡ cond v (written (telling (tellOf c r .bytes) y)) (stepped 9 c a) .answer)
+          (cond v (written (effect (effectOf b r .bytes) x)) (stepped 9 b a) .code ≡ cond v (written (effect (effectOf c r .bytes) y)) (stepped 9 c a) .code)
+          × (cond v (written (effect (effectOf b r .bytes) x)) (stepped 9 b a) .answer
+          ≡ cond v (written (effect (effectOf c r .bytes) y)) (stepped 9 c a) .answer)
       go true x y e = (ap (λ (z : Said). codeOf (ownOf z)) e, ap (λ (z : Said). answerBytes (ownOf z) (grantsOf z)) e)
       go false x y e = (refl, refl)
 
   -- So bytes 8 to 63 of the head are never read.
   pub head-unread : ((k : ℕ) → k < 8 → getD b k 0 ≡ getD c k 0) → ((d : ℕ) → d < disks → partOf b d ≡ partOf c d) →
       (stepOf b r a .code ≡ stepOf c r a .code) × (stepOf b r a .answer ≡ stepOf c r a .answer)
-  head-unread bits parts = reads-own (λ h. open-same b c bits (diskOf r) h) (λ h. parts (diskOf r) h)
+  head-unread bits parts = reads-own (λ h. open-same b c bits (diskNumber r) h) (λ h. parts (diskNumber r) h)

@@ -36,4 +36,4 @@ pub mod TurnLaws
 pub mod LifeLaws
 pub mod AskedLaws
 pub mod ToldLaws
-pub mod TicketLaws
+pub mod TakenLaws

@@ -13,16 +13,16 @@ use Rattle.num.specs.OpenedLaws.{open-none}
 use Rattle.law.specs.Lists.{All, all-append, getD-filled}
 use Rattle.law.specs.Types.{mostError, Disk as LawDisk, Item, accepted}
 use Rattle.law.specs.Calls.{opened}
-use Rattle.law.specs.History.{Call as LawCall, History as LawHistory, begun as lawBegun, after as lawAfter, answered, lived as lawLived}
+use Rattle.law.specs.History.{Call, History as LawHistory, begun as lawBegun, after as lawAfter, answered, lived as lawLived}
 use Rattle.law.specs.Sound.{Sound}
 use Rattle.law.specs.SoundKept.{ReadableCall, lived-sound}
 use Rattle.law.specs.ProperLaws.{disk-proper}
 use Rattle.law.specs.DiskType.{diskTable}
-use Rattle.desk.specs.Record.{diskOf, nowOf, callOf, usedLimit, promisedLimit}
+use Rattle.desk.specs.Record.{diskNumber, nowOf, callOf, usedLimit, promisedLimit}
 use Rattle.desk.specs.Board.{disks, boardBytes, partOf}
 use Rattle.part.specs.Held.{held, partFor, soundPart}
 use Rattle.part.specs.PartLaws.{held-part, part-sound}
-use Rattle.promises.specs.Histories.{emptyBoard, Call, BytesIn, stepBy, itemsIn, itemsOn, History, begun, after, lived}
+use Rattle.promises.specs.Histories.{emptyBoard, BoardCall, BytesIn, stepBy, itemsIn, itemsOn, History, begun, after, lived}
 use Rattle.promises.specs.CaseLaws.{call-readable, now-fits, served-now}
 use Rattle.promises.specs.Kept.{size-stays, bytes-stay}
 use Rattle.promises.specs.TurnLaws.{Turn, stays, opens, serves, turn, own-items}
@@ -34,7 +34,7 @@ pub record Life : Type 0 where
   pub now : ℕ
   pub limit0 : ℕ
   pub limit1 : ℕ
-  pub calls : List LawCall
+  pub calls : List Call
   pub fits0 : limit0 ≤ mostError
   pub fits1 : limit1 ≤ mostError
   pub readable : All ReadableCall calls
@@ -51,7 +51,7 @@ life-disk : {p : List ℕ} (l : Life) → p ≡ partFor (lifeOf l .disk) → hel
 life-disk l e = ap held e ∙ held-part (lifeOf l .disk) (life-sound l) (l .clock)
 
 -- One call more.
-lived-last : (h : LawHistory) (ks : List LawCall) (k : LawCall) →
+lived-last : (h : LawHistory) (ks : List Call) (k : Call) →
     lawLived diskTable h (ks ++ (k ∷ [])) ≡ lawAfter (lawLived diskTable h ks) (answered diskTable (lawLived diskTable h ks .disk) k)
 unfolding lawLived
 lived-last h [] k = refl
@@ -91,7 +91,7 @@ whole-begun =
 
 -- ---- any call keeps the board whole
 
-module _ (h : History) (k : Call) (bs : BytesIn k) where
+module _ (h : History) (k : BoardCall) (bs : BytesIn k) where
   abbrev b : List ℕ
   b = h .board
 
@@ -99,7 +99,7 @@ module _ (h : History) (k : Call) (bs : BytesIn k) where
   r = k .asks
 
   abbrev dk : ℕ
-  dk = diskOf (k .asks)
+  dk = diskNumber (k .asks)
 
   -- An opened disk begins its life.
   begins : usedLimit r ≤ mostError → promisedLimit r ≤ mostError → Life
@@ -150,7 +150,7 @@ module _ (h : History) (k : Call) (bs : BytesIn k) where
             clock = rw next (omega (arith, served-now (partOf b dk) r bs w s f items a, now-fits r bs));
           }
 
-pub whole-after : (h : History) (k : Call) → Whole h → BytesIn k → Whole (after h k)
+pub whole-after : (h : History) (k : BoardCall) → Whole h → BytesIn k → Whole (after h k)
 whole-after h k w bs =
     record {
       size = size-stays (h .board) (k .asks) (k .buffer) bs ∙ w .size;
@@ -159,14 +159,14 @@ whole-after h k w bs =
     }
 
 -- Any calls from the empty board leave a whole one.
-pub whole-lived : (h : History) (ks : List Call) → All BytesIn ks → Whole h → Whole (lived h ks)
+pub whole-lived : (h : History) (ks : List BoardCall) → All BytesIn ks → Whole h → Whole (lived h ks)
 unfolding lived
 whole-lived h [] bs w = w
 whole-lived h (k ∷ ks) bs w = whole-lived (after h k) ks (bs .1) (whole-after h k w (bs .0))
 
 -- ---- what holds of each life holds of each disk of such a board
 
-module _ (ks : List Call) (bs : All BytesIn ks) (d : ℕ) (known : d < disks) where
+module _ (ks : List BoardCall) (bs : All BytesIn ks) (d : ℕ) (known : d < disks) where
   -- Nothing was said on a shut disk.
   pub by-life : (P : LawDisk → List Item → Type 0) →
       (openAt (lived begun ks .board) d ≡ false → (e : LawDisk) → P e []) → ((l : Life) → P (lifeOf l .disk) (lifeOf l .past)) →

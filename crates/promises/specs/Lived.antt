@@ -6,12 +6,12 @@ use mathlib.Core.Path.{_≡_}
 use Rattle.num.specs.Opened.{openAt}
 use Rattle.law.specs.Lists.{All}
 use Rattle.desk.specs.Board.{disks, partOf}
-use Rattle.promises.specs.Histories.{Call, BytesIn, begun, lived}
+use Rattle.promises.specs.Histories.{BoardCall, BytesIn, begun, lived}
 use Rattle.promises.specs.Sentences.{SoundPart}
 use Rattle.promises.specs.RefusalLaws.{says-sound-part}
 use Rattle.promises.specs.LifeLaws.{open-sound}
 
 -- Every open part is sound.
-pub open-parts-sound : (ks : List Call) → All BytesIn ks → (d : ℕ) → d < disks → openAt (lived begun ks .board) d ≡ true →
+pub open-parts-sound : (ks : List BoardCall) → All BytesIn ks → (d : ℕ) → d < disks → openAt (lived begun ks .board) d ≡ true →
     SoundPart (partOf (lived begun ks .board) d)
 open-parts-sound ks bs d h o = says-sound-part (partOf (lived begun ks .board) d) .0 (open-sound ks bs d h o)

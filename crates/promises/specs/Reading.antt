@@ -10,9 +10,9 @@ use denote.Ref.{RefT}
 use lib.ListN.{length, getD, drop, length-take, length-drop, List·getD-eq-default}
 use lib.Seq.{getD-take, getD-drop}
 use Rattle.answer.specs.Answers.{answerSize}
-use Rattle.desk.specs.Record.{kindOf, recordBytes, wellFormed}
+use Rattle.desk.specs.Record.{kindByte, recordBytes, wellFormed}
 use Rattle.desk.specs.Board.{boardBytes}
-use Rattle.desk.specs.Step.{tellOf, stepOf}
+use Rattle.desk.specs.Step.{effectOf, stepOf}
 use Rattle.records.specs.declared.Reader.{Reader}
 use Rattle.records.specs.declared.Piece.{Piece}
 use Rattle.records.specs.declared.Piece.the-variants.{Record, Short, End}
@@ -54,12 +54,12 @@ module _ (s : List ℕ) (at to : ℕ) (h : to ≤ length s) where
   piece-size : length (bytesOf s (span at to)) ≡ to - at
   piece-size = simp (length-take, length-drop) (omega arith)
 
-  piece-kind : at + 2 < to → kindOf (bytesOf s (span at to)) ≡ getD s (at + 2) 0
+  piece-kind : at + 2 < to → kindByte (bytesOf s (span at to)) ≡ getD s (at + 2) 0
   piece-kind l = getD-take (to - at) (drop at s) 2 0 (omega arith) ∙ getD-drop at s 2 0
 
 -- A whole record has the length that the desk asks of its kind.
 pub whole-fits : (s : List ℕ) (at to : ℕ) → pieceAt s at ≡ Record to →
-    length (bytesOf s (span at to)) ≡ recordBytes (kindOf (bytesOf s (span at to)))
+    length (bytesOf s (span at to)) ≡ recordBytes (kindByte (bytesOf s (span at to)))
 whole-fits s at to e =
     let h = whole-is s at to e in
     let k = length-least (getD s (at + 2) 0) in
@@ -67,10 +67,10 @@ whole-fits s at to e =
     piece-size s at to (h .1)
     ∙ n
     ∙ ap lengthOf (sym (piece-kind s at to (h .1) (omega (arith, h .0))))
-    ∙ same-length (kindOf (bytesOf s (span at to)))
+    ∙ same-length (kindByte (bytesOf s (span at to)))
 
 -- The kind of a piece that reaches the end of the run, also where it is too short to have one.
-last-kind : (s : List ℕ) (at : ℕ) → kindOf (bytesOf s (span at (length s))) ≡ getD s (at + 2) 0
+last-kind : (s : List ℕ) (at : ℕ) → kindByte (bytesOf s (span at (length s))) ≡ getD s (at + 2) 0
 last-kind s at =
     ⊎-elim
     (λ (e : length s - (at + 2) ≡ 0).
@@ -80,11 +80,11 @@ last-kind s at =
     (eq-zero-or-pos (length s - (at + 2)))
 
 -- A record of another length than its kind asks is not well formed, and is refused 10.
-other-length : (b r a : List ℕ) → (length r ≡ recordBytes (kindOf r) → ⊥) → length b ≡ boardBytes → length a ≡ answerSize →
+other-length : (b r a : List ℕ) → (length r ≡ recordBytes (kindByte r) → ⊥) → length b ≡ boardBytes → length a ≡ answerSize →
     stepOf b r a .code ≡ 10
-unfolding stepOf tellOf wellFormed
+unfolding stepOf effectOf wellFormed
 other-length b r a n whole size =
-    rw (eq-eqb (length b) boardBytes whole, eq-eqb (length a) answerSize size, ne-eqb (length r) (recordBytes (kindOf r)) n)
+    rw (eq-eqb (length b) boardBytes whole, eq-eqb (length a) answerSize size, ne-eqb (length r) (recordBytes (kindByte r)) n)
 
 -- A short last piece is refused 10.
 pub short-refused : (b s a : List ℕ) (at to : ℕ) → pieceAt s at ≡ Short to → length b ≡ boardBytes → length a ≡ answerSize →

@@ -19,7 +19,7 @@ use Rattle.law.specs.Lists.{and-left, and-right}
 use Rattle.law.specs.Calls.{Rule, openDisk}
 use Rattle.law.specs.History.{Call, claims, releases, answered}
 use Rattle.law.specs.DiskType.{diskTable}
-use Rattle.law.specs.Says.{by-test, Says, fails, says-le, says-eq, says-not, says-and, says-two, says-fails, says-self, none, _⊳_ as _then_, says-row, _and_}
+use Rattle.law.specs.Says.{by-test, Says, fails, says-le, says-eq, says-not, says-and, says-two, says-fails, says-self, none, _⊳_ as _then_, says-tests, _and_}
 use Rattle.law.specs.Sentences.{Sentence, FirstHolds, openSentences, sentencesOf}
 use Rattle.law.specs.Refusals.{Matches, done, _⊳_, open-refused-by-rule, refused-exactly}
 use Rattle.part.specs.ByteLaws.{zero-byte}
@@ -28,13 +28,13 @@ use Rattle.answer.specs.declared.Answer.the-variants as A
 use Rattle.answer.specs.declared.Refusal.the-variants as R
 use Rattle.answer.specs.Answers.{numberOf, refusalOf, codeOf, itemBytes, itemsBytes, answerBytes, answerSize}
 use Rattle.answer.specs.AnswerLaws.{refusal-number, number-range}
-use Rattle.desk.specs.Record.{byteAt, kindOf, diskOf, nowOf, callOf, usedLimit, promisedLimit, unused, kindFits, wellFormed}
+use Rattle.desk.specs.Record.{byteAt, kindByte, diskNumber, nowOf, callOf, usedLimit, promisedLimit, unused, kindFits, wellFormed}
 use Rattle.desk.specs.Board.{disks, boardBytes, partOf, withPart}
 use Rattle.desk.specs.BoardLaws.{with-same}
 use Rattle.part.specs.PartLaws.{sound-decodes, sound-held, sound-part}
 use Rattle.part.specs.Held.{held, soundPart}
-use Rattle.desk.specs.Step.{answerOf, Said, refuses, tells, ownOf, grantsOf, Told, refusing, settled, serveOf, onPart, opening, onBoard, tellOf, Stepped, stepped, written, stepOf}
-use Rattle.desk.specs.StepLaws.{by-answer, by-serve, by-tell}
+use Rattle.desk.specs.Step.{answerOf, Said, refuses, accepts, ownOf, grantsOf, Effect, refusing, settled, serveOf, onPart, opening, onBoard, effectOf, Stepped, stepped, written, stepOf}
+use Rattle.desk.specs.StepLaws.{by-answer, by-serve, by-effect}
 use Rattle.promises.specs.Sentences.{Unused, KindFits, WellFormed, SoundPart, ruleSentences, sentences}
 
 -- ---- 10: the test of a record says that it is well formed
@@ -54,11 +54,11 @@ says-unused r at n = (
     byte : Unused r at (at + n) → (k : ℕ) → k < n → getD (take n (drop at r)) k 0 ≡ 0
     byte h k u = getD-take n (drop at r) k 0 u ∙ getD-drop at r k 0 ∙ h (at + k) (omega arith) (omega arith)
 
-says-kind : (r : List ℕ) → Says (kindFits r (kindOf r)) (KindFits r)
+says-kind : (r : List ℕ) → Says (kindFits r (kindByte r)) (KindFits r)
 says-kind r = go (eqb k 1) refl (eqb k 2) refl (eqb k 3) refl
   where
     k : ℕ
-    k = kindOf r
+    k = kindByte r
 
     opens : Says (allTrue (unused r 4 3 ∷ unused r 12 4 ∷ [])) (Unused r 4 7 × Unused r 12 16)
     opens = says-two (unused r 4 3) (unused r 12 4) (says-unused r 4 3) (says-unused r 12 4)
@@ -91,7 +91,7 @@ pub says-formed : (r : List ℕ) → Says (wellFormed r) (WellFormed r)
 unfolding wellFormed
 says-formed r =
     let all =
-    says-row
+    says-tests
     (says-eq (length r) 24
     then says-eq (byteAt r 0) 0x52
     then says-eq (byteAt r 1) 0x42
@@ -142,10 +142,10 @@ call-numbered d (claims q) = refl
 call-numbered d (releases now n) = refl
 
 rule-numbered : (b r : List ℕ) → numbered (ruleSentences b r) ≡ true
-rule-numbered b r = go (eqb (kindOf r) 1)
+rule-numbered b r = go (eqb (kindByte r) 1)
   where
     d : Disk
-    d = held (partOf b (diskOf r))
+    d = held (partOf b (diskNumber r))
 
     go : (w : Bool) →
         numbered (cond w (openSentences (usedLimit r) (promisedLimit r)) (sentencesOf diskTable d (callOf r))) ≡ true
@@ -171,7 +171,7 @@ item-accepted : (i : Item) → codeOf (answerOf i) ≤ 3
 item-accepted i = by-answer (λ a. codeOf a ≤ 3) i (omega arith) (omega arith) (omega arith) (omega arith)
 
 -- The code of an accepted call is at most 3.
-told-accepted : (items : List Item) → codeOf (ownOf (tells items)) ≤ 3
+told-accepted : (items : List Item) → codeOf (ownOf (accepts items)) ≤ 3
 told-accepted [] = omega arith
 told-accepted (i ∷ items) = item-accepted i
 
@@ -185,7 +185,7 @@ answer-ends (A.Refused r) = inr (number-range r)
 -- The code of an outcome of the law.
 abbrev pub outcomeCode : Outcome → ℕ
 outcomeCode (refused n) = numberOf (refusalOf n)
-outcomeCode (accepted d items) = codeOf (ownOf (tells items))
+outcomeCode (accepted d items) = codeOf (ownOf (accepts items))
 
 -- An outcome that is refused exactly by the first sentence that holds has the number of that sentence.
 outcome-exactly : (n : ℕ) → 9 ≤ n → (o : Outcome) (ss : List Sentence) → numbered ss ≡ true →
@@ -246,26 +246,26 @@ tests whole formed far opens isOpen sound =
 module _ (b r a : List ℕ) where
   -- The call's disk and its part; what the law says of an open and of any other call on it; the test of the lengths.
   abbrev d : ℕ
-  d = diskOf r
+  d = diskNumber r
 
   abbrev p : List ℕ
-  p = partOf b (diskOf r)
+  p = partOf b (diskNumber r)
 
   abbrev pub opened : Outcome
   opened = openDisk (nowOf r) (usedLimit r) (promisedLimit r)
 
   abbrev pub served : Outcome
-  served = answered diskTable (held (partOf b (diskOf r))) (callOf r)
+  served = answered diskTable (held (partOf b (diskNumber r))) (callOf r)
 
   abbrev pub lengths : Bool
   lengths = eqb (length b) boardBytes && eqb (length a) answerSize
 
   -- The code of a call is the number of the first test that refuses it, or the code of the law's outcome.
   pub code-by : stepOf b r a .code
-      ≡ firstOf (tests lengths (wellFormed r) (leb disks d) (eqb (kindOf r) 1) (openAt b d) (soundPart p))
-      (cond (eqb (kindOf r) 1) (outcomeCode opened) (outcomeCode served))
-  unfolding stepOf tellOf onBoard serveOf
-  code-by = go lengths (wellFormed r) (leb disks d) (eqb (kindOf r) 1) (openAt b d) (soundPart p)
+      ≡ firstOf (tests lengths (wellFormed r) (leb disks d) (eqb (kindByte r) 1) (openAt b d) (soundPart p))
+      (cond (eqb (kindByte r) 1) (outcomeCode opened) (outcomeCode served))
+  unfolding stepOf effectOf onBoard serveOf
+  code-by = go lengths (wellFormed r) (leb disks d) (eqb (kindByte r) 1) (openAt b d) (soundPart p)
     where
       go : (whole formed far opens isOpen sound : Bool) →
           cond whole
@@ -287,8 +287,8 @@ module _ (b r a : List ℕ) where
       go true true false false true false = refl
 
   rule-exactly : (n : ℕ) → 9 ≤ n →
-      (cond (eqb (kindOf r) 1) (outcomeCode opened) (outcomeCode served) ≡ n) ↔ FirstHolds n (ruleSentences b r)
-  rule-exactly n l = go (eqb (kindOf r) 1)
+      (cond (eqb (kindByte r) 1) (outcomeCode opened) (outcomeCode served) ≡ n) ↔ FirstHolds n (ruleSentences b r)
+  rule-exactly n l = go (eqb (kindByte r) 1)
     where
       go : (w : Bool) →
           (cond w (outcomeCode opened) (outcomeCode served) ≡ n)
@@ -306,31 +306,31 @@ module _ (b r a : List ℕ) where
 
   pub code-exactly : (n : ℕ) → 9 ≤ n → (stepOf b r a .code ≡ n) ↔ FirstHolds n (sentences b r a)
   code-exactly n l =
-      let opens : Says (eqb (kindOf r) 1) (kindOf r ≡ 1) = says-eq (kindOf r) 1 in
-      let row : Matches (tests lengths (wellFormed r) (leb disks d) (eqb (kindOf r) 1) (openAt b d) (soundPart p)) _ =
+      let opens : Says (eqb (kindByte r) 1) (kindByte r ≡ 1) = says-eq (kindByte r) 1 in
+      let row : Matches (tests lengths (wellFormed r) (leb disks d) (eqb (kindByte r) 1) (openAt b d) (soundPart p)) _ =
       says-not lengths says-lengths
       ⊳ says-not (wellFormed r) (says-formed r)
       ⊳ says-le disks d
-      ⊳ says-and (eqb (kindOf r) 1) (openAt b d) opens (says-self (openAt b d))
-      ⊳ says-and (not (eqb (kindOf r) 1)) (not (openAt b d)) (says-not (eqb (kindOf r) 1) opens) (says-fails (openAt b d))
-      ⊳ says-and (not (eqb (kindOf r) 1)) (not (soundPart p)) (says-not (eqb (kindOf r) 1) opens)
+      ⊳ says-and (eqb (kindByte r) 1) (openAt b d) opens (says-self (openAt b d))
+      ⊳ says-and (not (eqb (kindByte r) 1)) (not (openAt b d)) (says-not (eqb (kindByte r) 1) opens) (says-fails (openAt b d))
+      ⊳ says-and (not (eqb (kindByte r) 1)) (not (soundPart p)) (says-not (eqb (kindByte r) 1) opens)
       (says-not (soundPart p) (says-sound-part p))
       ⊳ done in
       rw code-by
-      (first-exactly n (cond (eqb (kindOf r) 1) (outcomeCode opened) (outcomeCode served)) (ruleSentences b r) row
+      (first-exactly n (cond (eqb (kindByte r) 1) (outcomeCode opened) (outcomeCode served)) (ruleSentences b r) row
       (rule-exactly n l))
 
 -- ---- what a refusal leaves and answers
 
 -- What holds of a call past 9, and of 9, holds of every call.
 pub by-lengths : (b r a : List ℕ) (P : Stepped → Type 0) →
-    (length b ≡ boardBytes → length a ≡ answerSize → P (written (tellOf b r))) → P (stepped 9 b a) → P (stepOf b r a)
+    (length b ≡ boardBytes → length a ≡ answerSize → P (written (effectOf b r))) → P (stepped 9 b a) → P (stepOf b r a)
 unfolding stepOf
 by-lengths b r a P past nine =
     by-test P (lengths b r a) (λ e. let h = says-lengths b r a .0 e in past (h .0) (h .1)) (λ e. nine)
 
 -- If it is a refusal, the bytes are as they were.
-abbrev Leaves : List ℕ → Told → Type 0
+abbrev Leaves : List ℕ → Effect → Type 0
 Leaves b t = 9 ≤ codeOf (ownOf (t .said)) → t .bytes ≡ b
 
 opening-leaves : (b : List ℕ) (d : ℕ) (o : Outcome) → Leaves b (opening b d o)
@@ -344,16 +344,16 @@ settled-leaves p (accepted e items) h = absurd (omega (arith, told-accepted item
 serve-leaves : (p : List ℕ) (k : Call) → Leaves p (serveOf p k)
 serve-leaves p k = by-serve (Leaves p) p k (λ h. refl) (λ s. settled-leaves p (answered diskTable (held p) k))
 
-pub tell-leaves : (b r : List ℕ) → length b ≡ boardBytes → Leaves b (tellOf b r)
-tell-leaves b r whole =
-    by-tell (Leaves b) b r (λ x h. refl)
-    (λ w known o. opening-leaves b (diskOf r) (openDisk (nowOf r) (usedLimit r) (promisedLimit r)))
+pub effect-leaves : (b r : List ℕ) → length b ≡ boardBytes → Leaves b (effectOf b r)
+effect-leaves b r whole =
+    by-effect (Leaves b) b r (λ x h. refl)
+    (λ w known o. opening-leaves b (diskNumber r) (openDisk (nowOf r) (usedLimit r) (promisedLimit r)))
     (λ w known o h.
-    ap (withPart b (diskOf r)) (serve-leaves (partOf b (diskOf r)) (callOf r) h) ∙ with-same b (diskOf r) whole known)
+    ap (withPart b (diskNumber r)) (serve-leaves (partOf b (diskNumber r)) (callOf r) h) ∙ with-same b (diskNumber r) whole known)
 
 -- A refusal's number, then zeros.
 pub said-answers : (s : Said) → 9 ≤ codeOf (ownOf s) →
     answerBytes (ownOf s) (grantsOf s) ≡ le4 (codeOf (ownOf s)) ++ replicate 140 0
 unfolding answerBytes itemsBytes itemBytes flat le4 wordOf
 said-answers (refuses r) h = refl
-said-answers (tells items) h = absurd (omega (arith, told-accepted items))
+said-answers (accepts items) h = absurd (omega (arith, told-accepted items))

@@ -17,7 +17,7 @@ use Rattle.law.specs.Sentences.{Sentence, openSentences, sentencesOf}
 use Rattle.law.specs.Sound.{Sound}
 use Rattle.law.specs.DiskType.{diskTable}
 use Rattle.part.specs.Layout.{decodes}
-use Rattle.desk.specs.Record.{byteAt, kindOf, diskOf, askedOf, callOf, usedLimit, promisedLimit}
+use Rattle.desk.specs.Record.{byteAt, kindByte, diskNumber, askedIn, callOf, usedLimit, promisedLimit}
 use Rattle.desk.specs.Board.{partOf}
 use Rattle.part.specs.Held.{held}
 
@@ -30,7 +30,7 @@ Unused r from to = (k : ℕ) → from ≤ k → k < to → byteAt r k ≡ 0
 -- An open with bytes 4–6 and 12–15 zero, a claim, or a release with bytes 4–6 and 16–23 zero.
 abbrev pub KindFits : List ℕ → Type 0
 KindFits r =
-    ((kindOf r ≡ 1) × Unused r 4 7 × Unused r 12 16) ⊎ ((kindOf r ≡ 2) ⊎ ((kindOf r ≡ 3) × Unused r 4 7 × Unused r 16 24))
+    ((kindByte r ≡ 1) × Unused r 4 7 × Unused r 12 16) ⊎ ((kindByte r ≡ 2) ⊎ ((kindByte r ≡ 3) × Unused r 4 7 × Unused r 16 24))
 
 -- What 10 asks of a record: all of these.
 pub record WellFormed (r : List ℕ) : Type 0 where
@@ -52,9 +52,9 @@ pub record SoundPart (p : List ℕ) : Type 0 where
 -- 15 to 21: those of an open, or of the claim or release on the disk that the part holds.
 abbrev pub ruleSentences : List ℕ → List ℕ → List Sentence
 ruleSentences b r =
-    cond (eqb (kindOf r) 1)
+    cond (eqb (kindByte r) 1)
     (openSentences (usedLimit r) (promisedLimit r))
-    (sentencesOf diskTable (held (partOf b (diskOf r))) (callOf r))
+    (sentencesOf diskTable (held (partOf b (diskNumber r))) (callOf r))
 
 -- 9 board or answer buffer of another length; 10 a record that is not well formed; 11 a disk above 63; 12 open of an open disk; 13 claim
 -- or release on a closed disk; 14 a part that is not sound (not for open); then 15 to 21.
@@ -62,10 +62,10 @@ abbrev pub sentences : List ℕ → List ℕ → List ℕ → List Sentence
 sentences b r a =
     record { number = 9; says = (length b ≡ 49_216) × (length a ≡ 144) → ⊥ }
     ∷ record { number = 10; says = WellFormed r → ⊥ }
-    ∷ record { number = 11; says = 63 < diskOf r }
-    ∷ record { number = 12; says = (kindOf r ≡ 1) × (openAt b (diskOf r) ≡ true) }
-    ∷ record { number = 13; says = (kindOf r ≡ 1 → ⊥) × (openAt b (diskOf r) ≡ false) }
-    ∷ record { number = 14; says = (kindOf r ≡ 1 → ⊥) × (SoundPart (partOf b (diskOf r)) → ⊥) }
+    ∷ record { number = 11; says = 63 < diskNumber r }
+    ∷ record { number = 12; says = (kindByte r ≡ 1) × (openAt b (diskNumber r) ≡ true) }
+    ∷ record { number = 13; says = (kindByte r ≡ 1 → ⊥) × (openAt b (diskNumber r) ≡ false) }
+    ∷ record { number = 14; says = (kindByte r ≡ 1 → ⊥) × (SoundPart (partOf b (diskNumber r)) → ⊥) }
     ∷ ruleSentences b r
 
 -- ---- no refusal
@@ -84,8 +84,8 @@ pub record Grants (s : Core) (waiting : List Claim) (c : Claim) : Type 0 where
 
 -- The claim of a record is granted on that disk, at its second and with the disk's next ticket.
 abbrev pub GrantsOn : LawDisk → List ℕ → Type 0
-GrantsOn d r = Grants (at d (askedOf r .now)) (d .waiting) (asked d (askedOf r))
+GrantsOn d r = Grants (at d (askedIn r .now)) (d .waiting) (asked d (askedIn r))
 
 -- It is granted on the disk that its part holds.
 abbrev pub GrantsIn : List ℕ → List ℕ → Type 0
-GrantsIn b r = GrantsOn (held (partOf b (diskOf r))) r
+GrantsIn b r = GrantsOn (held (partOf b (diskNumber r))) r

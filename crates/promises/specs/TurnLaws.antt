@@ -14,33 +14,33 @@ use Rattle.law.specs.Calls.{item, opened}
 use Rattle.law.specs.History.{answered}
 use Rattle.law.specs.DiskType.{diskTable}
 use Rattle.answer.specs.Answers.{answerSize}
-use Rattle.desk.specs.Record.{wellFormed, diskOf, nowOf, callOf, usedLimit, promisedLimit}
+use Rattle.desk.specs.Record.{wellFormed, diskNumber, nowOf, callOf, usedLimit, promisedLimit}
 use Rattle.desk.specs.Board.{disks, boardBytes, partOf, withPart}
 use Rattle.desk.specs.BoardLaws.{length-with, part-same, part-open, open-with}
 use Rattle.part.specs.Held.{held, partFor, soundPart}
-use Rattle.desk.specs.Step.{tells, Told, tellOf, stepOf}
-use Rattle.promises.specs.Histories.{Call, BytesIn, stepBy, saidBy, itemsIn, itemsOn}
-use Rattle.promises.specs.CaseLaws.{Case, isRefused, isOpened, isServed, told-case, opened-size, served-size}
+use Rattle.desk.specs.Step.{accepts, Effect, effectOf, stepOf}
+use Rattle.promises.specs.Histories.{BoardCall, BytesIn, stepBy, saidBy, itemsIn, itemsOn}
+use Rattle.promises.specs.CaseLaws.{Case, isRefused, isOpened, isServed, effect-case, opened-size, served-size}
 use Rattle.promises.specs.Kept.{other-parts, other-bits}
 
-pub data Turn (b : List ℕ) (k : Call) : ℕ → Type 0 where
+pub data Turn (b : List ℕ) (k : BoardCall) : ℕ → Type 0 where
   stays : {d : ℕ} → openAt (stepBy b k .bytes) d ≡ openAt b d → partOf (stepBy b k .bytes) d ≡ partOf b d → itemsOn b k d ≡ [] →
       Turn b k d
-  opens : openAt b (diskOf (k .asks)) ≡ false → usedLimit (k .asks) ≤ mostError → promisedLimit (k .asks) ≤ mostError →
-      openAt (stepBy b k .bytes) (diskOf (k .asks)) ≡ true →
-      partOf (stepBy b k .bytes) (diskOf (k .asks)) ≡ partFor (opened (nowOf (k .asks)) (usedLimit (k .asks)) (promisedLimit (k .asks))) →
-      saidBy b k ≡ tells (item 3 0 ∷ []) → Turn b k (diskOf (k .asks))
-  serves : wellFormed (k .asks) ≡ true → openAt b (diskOf (k .asks)) ≡ true → soundPart (partOf b (diskOf (k .asks))) ≡ true →
-      (e : LawDisk) (items : List Item) → answered diskTable (held (partOf b (diskOf (k .asks)))) (callOf (k .asks)) ≡ accepted e items →
-      openAt (stepBy b k .bytes) (diskOf (k .asks)) ≡ true → partOf (stepBy b k .bytes) (diskOf (k .asks)) ≡ partFor e →
-      saidBy b k ≡ tells items → Turn b k (diskOf (k .asks))
+  opens : openAt b (diskNumber (k .asks)) ≡ false → usedLimit (k .asks) ≤ mostError → promisedLimit (k .asks) ≤ mostError →
+      openAt (stepBy b k .bytes) (diskNumber (k .asks)) ≡ true →
+      partOf (stepBy b k .bytes) (diskNumber (k .asks)) ≡ partFor (opened (nowOf (k .asks)) (usedLimit (k .asks)) (promisedLimit (k .asks))) →
+      saidBy b k ≡ accepts (item 3 0 ∷ []) → Turn b k (diskNumber (k .asks))
+  serves : wellFormed (k .asks) ≡ true → openAt b (diskNumber (k .asks)) ≡ true → soundPart (partOf b (diskNumber (k .asks))) ≡ true →
+      (e : LawDisk) (items : List Item) → answered diskTable (held (partOf b (diskNumber (k .asks)))) (callOf (k .asks)) ≡ accepted e items →
+      openAt (stepBy b k .bytes) (diskNumber (k .asks)) ≡ true → partOf (stepBy b k .bytes) (diskNumber (k .asks)) ≡ partFor e →
+      saidBy b k ≡ accepts items → Turn b k (diskNumber (k .asks))
 
-module _ (b : List ℕ) (k : Call) where
+module _ (b : List ℕ) (k : BoardCall) where
   abbrev r : List ℕ
   r = k .asks
 
   abbrev dk : ℕ
-  dk = diskOf (k .asks)
+  dk = diskNumber (k .asks)
 
   pub own-items : itemsOn b k dk ≡ itemsIn (saidBy b k)
   own-items = rw (eq-eqb dk dk refl)
@@ -57,13 +57,13 @@ module _ (b : List ℕ) (k : Call) where
 
     -- With one of its length the call is told.
     module _ (e : eqb (length (k .buffer)) answerSize ≡ true) where
-      bytes-are : (t : Told) → tellOf b r ≡ t → stepBy b k .bytes ≡ t .bytes
+      bytes-are : (t : Effect) → effectOf b r ≡ t → stepBy b k .bytes ≡ t .bytes
       unfolding stepOf
-      bytes-are t q = rw (eq-eqb (length b) boardBytes size, e) (ap (λ (y : Told). y .bytes) q)
+      bytes-are t q = rw (eq-eqb (length b) boardBytes size, e) (ap (λ (y : Effect). y .bytes) q)
 
-      said-is : (t : Told) → tellOf b r ≡ t → saidBy b k ≡ t .said
+      said-is : (t : Effect) → effectOf b r ≡ t → saidBy b k ≡ t .said
       unfolding saidBy
-      said-is t q = rw (eq-eqb (length b) boardBytes size, e) (ap (λ (y : Told). y .said) q)
+      said-is t q = rw (eq-eqb (length b) boardBytes size, e) (ap (λ (y : Effect). y .said) q)
 
       told : Case b r → Turn b k dk
       told (isRefused x t) = none (bytes-are _ t) (ap itemsIn (said-is _ t))
@@ -88,7 +88,7 @@ module _ (b : List ℕ) (k : Call) where
     own = go (eqb (length (k .buffer)) answerSize) refl
       where
         go : (v : Bool) → eqb (length (k .buffer)) answerSize ≡ v → Turn b k dk
-        go true e = told e (told-case b r size)
+        go true e = told e (effect-case b r size)
         go false e = unheard e
 
   pub turn : length b ≡ boardBytes → BytesIn k → (d : ℕ) → d < disks → Turn b k d

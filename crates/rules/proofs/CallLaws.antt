@@ -30,7 +30,7 @@ use Rattle.rules.proofs.MethodLaws.{method-past, method-cases}
 use Rattle.rules.specs.Disks.{figuresIn, diskOf, Good}
 use Rattle.rules.specs.Answers.{valueBy, shownBy, firstNumber, firstRules, coreAt, TakesGrant, grantedOf, waitingOf, emptyOf}
 use Rattle.rules.specs.declared.disk.Disk.{Disk}
-use Rattle.rules.proofs.RangeLaws.{limit-most, error-most, limit-range, tell-range}
+use Rattle.rules.proofs.RangeLaws.{limit-most, error-most, limit-range, told-most}
 
 -- ---- 17: the fields of a claim
 
@@ -277,7 +277,7 @@ takes-grant d q sum good s z g e =
     record {
       good = good;
       may = may;
-      tells = tell-range (figuresIn d) (kindOf diskTable c) (proper-kind diskTable disk-proper (q .method)) (s .values);
+      told = told-most (figuresIn d) (kindOf diskTable c) (proper-kind diskTable disk-proper (q .method)) (s .values);
       counts = e;
       few = omega (arith, may .inLimit, limit-range (figuresIn d) (kindOf diskTable c) (c .error) mostError (λ a. limit-most a _ (s .limits a)) (error-most (q .now) (kindOf diskTable c) c (p .fields)));
       ticket = ticket-fits (diskOf d) q z;

@@ -12,7 +12,7 @@ use Rattle.num.specs.Metric.{size, dist}
 use Rattle.law.specs.Types.{a0, a1, a2, Kind, sets, adds, reads, Figures}
 use Rattle.law.specs.Readings.{present, carried}
 use Rattle.law.specs.Entries.{kindAt}
-use Rattle.law.specs.Granting.{gapBy, tellBy, carriedBy}
+use Rattle.law.specs.Granting.{gapBy, toldBy, carriedBy}
 use Rattle.law.specs.DiskType.{diskTable}
 use Rattle.rules.specs.Methods.{readsBy, writesBy, readMask, writeMask, isReading, isAdd, writtenBy}
 
@@ -80,14 +80,14 @@ module _ (f : Figures) where
   unfolding readMask
   carried-of m = carried-by (kindAt diskTable m)
 
-  told-by : (k : Kind) → present f (readsBy k) ≡ tellBy f k
+  told-by : (k : Kind) → present f (readsBy k) ≡ toldBy f k
   unfolding hasBit
   told-by (sets a) = refl
   told-by (adds a) = refl
   told-by (reads m) = refl
 
   -- What is told is the sum of the values read.
-  pub told-of : (m : ℕ) → present f (readMask m) ≡ tellBy f (kindAt diskTable m)
+  pub told-of : (m : ℕ) → present f (readMask m) ≡ toldBy f (kindAt diskTable m)
   unfolding readMask
   told-of m = told-by (kindAt diskTable m)
 

@@ -8,7 +8,7 @@ use Rattle.num.specs.Metric.{size}
 use Rattle.law.specs.declared.Claim.{Claim}
 use Rattle.law.specs.Types.{mostValue, mostError, Attribute, a0, a1, a2, Kind, sets, adds, reads, properKind, Figures, attr}
 use Rattle.law.specs.Fields.{ValueFits, FieldsFit}
-use Rattle.law.specs.Granting.{limitBy, tellBy}
+use Rattle.law.specs.Granting.{limitBy, toldBy}
 use Rattle.law.specs.Sound.{LimitFits}
 use Rattle.law.specs.AttributeLaws.{told-range}
 
@@ -29,11 +29,11 @@ limit-range f (adds a) own n h o = h a
 limit-range f (reads m) own n h o = o
 
 -- What a granted claim is told is in range.
-pub tell-range : (f : Figures) (k : Kind) → properKind k ≡ true → ((a : Attribute) → ValueFits a (attr f a .value)) →
-    size (tellBy f k) ≤ mostError
-tell-range f (sets a) p h = omega arith
-tell-range f (adds a) p h = omega arith
-tell-range f (reads m) p h = told-range f m p h
+pub told-most : (f : Figures) (k : Kind) → properKind k ≡ true → ((a : Attribute) → ValueFits a (attr f a .value)) →
+    size (toldBy f k) ≤ mostError
+told-most f (sets a) p h = omega arith
+told-most f (adds a) p h = omega arith
+told-most f (reads m) p h = told-range f m p h
 
 -- A value in its range, and that of a claim whose fields are.
 pub value-size : (a : Attribute) (z : ℤ) → ValueFits a z → size z ≤ mostValue

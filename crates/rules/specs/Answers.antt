@@ -20,7 +20,7 @@ use Rattle.rules.specs.declared.disk.Item.{Item}
 use Rattle.rules.specs.declared.disk.Asked.{Asked}
 use Rattle.rules.specs.declared.calls.Judgement.{Judgement}
 use Rattle.rules.specs.Pairs.{coreOf}
-use Rattle.rules.specs.Disks.{figuresIn, Good, DiskIs, TellFits}
+use Rattle.rules.specs.Disks.{figuresIn, Good, DiskIs, ToldFits}
 
 -- An item that nothing fills.
 abbrev pub noItem : Item
@@ -77,7 +77,7 @@ coreAt d now = coreOf (figuresIn d) now (take (d .actives) (d .active))
 pub record TakesGrant (d : Disk) (now : ℕ) (c : Claim) (sum : ℕ) : Type 0 where
   pub good : Good d
   pub may : MayGrant diskTable (coreAt d now) c
-  pub tells : TellFits d c
+  pub told : ToldFits d c
   pub counts : sum ≡ total diskTable (coreAt d now) c
   pub few : sum ≤ mostError
   pub ticket : c .ticket ≤ lastTicket

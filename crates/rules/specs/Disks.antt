@@ -7,7 +7,7 @@ use Rattle.num.specs.Metric.{size}
 use Rattle.law.specs.declared.Claim.{Claim}
 use Rattle.law.specs.Types.{Figures, Core, Disk as LawDisk}
 use Rattle.law.specs.Entries.{kindOf}
-use Rattle.law.specs.Granting.{tellBy, grant}
+use Rattle.law.specs.Granting.{toldBy, grant}
 use Rattle.law.specs.DiskType.{diskTable}
 use Rattle.rules.specs.Rows.{Row, noClaim}
 use Rattle.rules.specs.Methods.{figuresOf}
@@ -40,8 +40,8 @@ abbrev pub grantOf : LawDisk → Claim → LawDisk
 grantOf e c = record { core = grant diskTable (e .core) c; waiting = e .waiting; next = e .next }
 
 -- What a granted claim is told is in range.
-abbrev pub TellFits : Disk → Claim → Type 0
-TellFits d c = size (tellBy (figuresIn d) (kindOf diskTable c)) ≤ 2_000_000_000
+abbrev pub ToldFits : Disk → Claim → Type 0
+ToldFits d c = size (toldBy (figuresIn d) (kindOf diskTable c)) ≤ 2_000_000_000
 
 -- ---- the disk by value of a disk of the law
 

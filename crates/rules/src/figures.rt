@@ -8,7 +8,7 @@ ghost use lib.Dec.{leb};
 ghost use lib.IntN.{pos};
 ghost use Rattle.num.specs.Metric.{size};
 ghost use Rattle.law.specs.Entries.{kindAt};
-ghost use Rattle.law.specs.Granting.{gapBy, startBy, limitBy, tellBy, carriedBy};
+ghost use Rattle.law.specs.Granting.{gapBy, startBy, limitBy, toldBy, carriedBy};
 ghost use Rattle.law.specs.DiskType.{diskTable};
 ghost use Rattle.rules.specs.Methods.{figuresOf, writtenBy, freshAt, preOf};
 use crate::method::is_add;
@@ -59,7 +59,7 @@ pub fn carried(m: u32, used: Attr, promised: Attr, state: Attr) -> u64
 
 // What a method is told: the sum of the values that it reads, 0 for a write.
 pub fn told(m: u32, used: Attr, promised: Attr, state: Attr) -> i64
-    ensures { λ r. ⌜ r ≡ tellBy (figuresOf used promised state) (kindAt diskTable m) ⌝ }
+    ensures { λ r. ⌜ r ≡ toldBy (figuresOf used promised state) (kindAt diskTable m) ⌝ }
     ensures { λ r. ⌜ size r ≤ 6442450944 ⌝ }
 {
     let mask = reads(m);

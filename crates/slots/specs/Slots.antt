@@ -15,8 +15,8 @@ use Rattle.rules.specs.Pairs.{letsBy}
 use Rattle.part.specs.Layout.{slots, inSlots}
 
 -- The bytes are those of their claims: what carries no figure is zero.
-abbrev pub Kept : List ℕ → Type 0
-Kept row = inSlots (slots 8 row) ≡ row
+abbrev pub Canonical : List ℕ → Type 0
+Canonical row = inSlots (slots 8 row) ≡ row
 
 -- The list with f done to each before a place.
 abbrev pub mapTo : {X : Type 0} → ℕ → (X → X) → List X → List X

@@ -17,7 +17,7 @@ use Rattle.law.specs.Granting.{putTold}
 use Rattle.rules.specs.Rows.{noClaim, Row}
 use Rattle.part.specs.Layout.{claimIn, claimWords, slots, inSlots, ClaimFits, ClaimsFit}
 use Rattle.part.specs.SlotLaws.{length-slots, length-slot, slots-back, slots-fit, slot-at, put-in-slot}
-use Rattle.slots.specs.Slots.{Kept, raiseBy, mapTo}
+use Rattle.slots.specs.Slots.{Canonical, raiseBy, mapTo}
 
 -- The bytes of eight claims that have a place hold them.
 pub slots-in : (cs : List Claim) → ClaimsFit cs → slots 8 (inSlots cs) ≡ cs
@@ -26,14 +26,14 @@ slots-in cs f =
     ∙ ap (λ (k : ℕ). slots k (inSlots cs ++ [])) (sym (f .room))
     ∙ slots-back cs [] (f .each)
 
-pub kept-in : (cs : List Claim) → ClaimsFit cs → Kept (inSlots cs)
+pub kept-in : (cs : List Claim) → ClaimsFit cs → Canonical (inSlots cs)
 kept-in cs f = ap inSlots (slots-in cs f)
 
 -- So do bytes that are theirs.
 pub put-slots : (r : List ℕ) (cs : List Claim) → ClaimsFit cs → r ≡ inSlots cs → slots 8 r ≡ cs
 put-slots r cs f e = ap (slots 8) e ∙ slots-in cs f
 
-pub put-kept : (r : List ℕ) (cs : List Claim) → ClaimsFit cs → r ≡ inSlots cs → Kept r
+pub put-kept : (r : List ℕ) (cs : List Claim) → ClaimsFit cs → r ≡ inSlots cs → Canonical r
 put-kept r cs f e = ap (λ (s : List ℕ). inSlots (slots 8 s)) e ∙ kept-in cs f ∙ sym e
 
 -- ---- what has a place
@@ -68,7 +68,7 @@ amount-fits c x f h =
 
 -- ---- what is put
 
-pub put-claim-in : (row : List ℕ) → Kept row → (i : ℕ) (c : Claim) → i < 8 →
+pub put-claim-in : (row : List ℕ) → Canonical row → (i : ℕ) (c : Claim) → i < 8 →
     splice row (44 * i) (flat (claimWords c)) ≡ inSlots (set (slots 8 row) i c)
 put-claim-in row kept i c h =
     ap (λ (r : List ℕ). splice r (44 * i) (flat (claimWords c))) (sym kept)
@@ -92,7 +92,7 @@ amount-slot (c ∷ cs) (suc i) x h =
     ∙ splice-second (flat (claimWords c)) (inSlots cs) (44 * i + 32) (le4 x)
     ∙ ap (λ (r : List ℕ). flat (claimWords c) ++ r) (amount-slot cs i x (omega arith))
 
-pub put-amount-in : (row : List ℕ) → Kept row → (i x : ℕ) → i < 8 →
+pub put-amount-in : (row : List ℕ) → Canonical row → (i x : ℕ) → i < 8 →
     putWord row (44 * i + 32) x
     ≡ inSlots (set (slots 8 row) i (putTold (getD (slots 8 row) i noClaim) (getD (slots 8 row) i noClaim .told) x))
 put-amount-in row kept i x h =

@@ -9,7 +9,7 @@ ghost use Rattle.law.specs.Calls.{before, queue};
 ghost use Rattle.law.specs.Granting.{putTold};
 ghost use Rattle.rules.specs.Pairs.{letsBy};
 ghost use Rattle.part.specs.Layout.{slots};
-ghost use Rattle.slots.specs.Slots.{Kept, mapTo, raiseBy, raiseWith, Raisable};
+ghost use Rattle.slots.specs.Slots.{Canonical, mapTo, raiseBy, raiseWith, Raisable};
 use law::Claim;
 use law::Entry;
 use num::word::put_word;
@@ -25,9 +25,9 @@ use rules::row::no_claim;
 // Puts a claim into a slot.
 pub fn put_slot(row: &mut [u8], i: usize, c: Claim)
     requires { ⌜ length (now row) ≡ 352 ⌝ }
-    requires { ⌜ Kept (now row) ⌝ }
+    requires { ⌜ Canonical (now row) ⌝ }
     requires { ⌜ i < 8 ⌝ }
-    ensures { λ _. ⌜ Kept (now (row .exit)) ⌝ }
+    ensures { λ _. ⌜ Canonical (now (row .exit)) ⌝ }
     ensures { λ _. ⌜ slots 8 (now (row .exit)) ≡ set (slots 8 (now (row .entry))) i c ⌝ }
 {
     put_claim(row, 44 * i, c);
@@ -52,10 +52,10 @@ pub fn find_in(row: &[u8], n: usize, ticket: u32) -> usize
 // Takes the claim at `at` out of the first n: those behind it move up, and the last place is cleared.
 pub fn take_out(row: &mut [u8], n: usize, at: usize)
     requires { ⌜ length (now row) ≡ 352 ⌝ }
-    requires { ⌜ Kept (now row) ⌝ }
+    requires { ⌜ Canonical (now row) ⌝ }
     requires { ⌜ Row (slots 8 (now row)) n ⌝ }
     requires { ⌜ at < n ⌝ }
-    ensures { λ _. ⌜ Kept (now (row .exit)) ⌝ }
+    ensures { λ _. ⌜ Canonical (now (row .exit)) ⌝ }
     ensures { λ _. ⌜ RowIs (slots 8 (now (row .exit))) (n - 1) (removeAt at (take n (slots 8 (now (row .entry))))) ⌝ }
 {
     let last = n - 1;
@@ -71,10 +71,10 @@ pub fn take_out(row: &mut [u8], n: usize, at: usize)
 // Clears the places from k to n, the last first.
 pub fn clear_from(row: &mut [u8], k: usize, n: usize)
     requires { ⌜ length (now row) ≡ 352 ⌝ }
-    requires { ⌜ Kept (now row) ⌝ }
+    requires { ⌜ Canonical (now row) ⌝ }
     requires { ⌜ Row (slots 8 (now row)) n ⌝ }
     requires { ⌜ k ≤ n ⌝ }
-    ensures { λ _. ⌜ Kept (now (row .exit)) ⌝ }
+    ensures { λ _. ⌜ Canonical (now (row .exit)) ⌝ }
     ensures { λ _. ⌜ RowIs (slots 8 (now (row .exit))) k (take k (slots 8 (now (row .entry)))) ⌝ }
 {
     let none = no_claim();
@@ -106,10 +106,10 @@ fn place(row: &[u8], n: usize, c: Claim) -> usize
 // Puts `c` among the first n at its place in the pass's order: from there on each moves down by one.
 pub fn queue_in(row: &mut [u8], n: usize, c: Claim)
     requires { ⌜ length (now row) ≡ 352 ⌝ }
-    requires { ⌜ Kept (now row) ⌝ }
+    requires { ⌜ Canonical (now row) ⌝ }
     requires { ⌜ Row (slots 8 (now row)) n ⌝ }
     requires { ⌜ n < 8 ⌝ }
-    ensures { λ _. ⌜ Kept (now (row .exit)) ⌝ }
+    ensures { λ _. ⌜ Canonical (now (row .exit)) ⌝ }
     ensures { λ _. ⌜ RowIs (slots 8 (now (row .exit))) (n + 1) (queue c (take n (slots 8 (now (row .entry))))) ⌝ }
 {
     let mut y = c;
@@ -126,9 +126,9 @@ pub fn queue_in(row: &mut [u8], n: usize, c: Claim)
 // Puts another amount into a slot.
 fn put_amount(row: &mut [u8], i: usize, amount: u32)
     requires { ⌜ length (now row) ≡ 352 ⌝ }
-    requires { ⌜ Kept (now row) ⌝ }
+    requires { ⌜ Canonical (now row) ⌝ }
     requires { ⌜ i < 8 ⌝ }
-    ensures { λ _. ⌜ Kept (now (row .exit)) ⌝ }
+    ensures { λ _. ⌜ Canonical (now (row .exit)) ⌝ }
     ensures { λ _. ⌜ slots 8 (now (row .exit)) ≡ set (slots 8 (now (row .entry))) i (putTold (getD (slots 8 (now (row .entry))) i noClaim) (getD (slots 8 (now (row .entry))) i noClaim .told) amount) ⌝ }
 {
     put_word(row, 44 * i + 32, amount);
@@ -151,10 +151,10 @@ fn raised(x: Claim, e: Entry, raise: u64) -> u32
 // Raises each of the first n by the grant of a write of method m.
 pub fn raise_all(row: &mut [u8], n: usize, m: u32, raise: u64)
     requires { ⌜ length (now row) ≡ 352 ⌝ }
-    requires { ⌜ Kept (now row) ⌝ }
+    requires { ⌜ Canonical (now row) ⌝ }
     requires { ⌜ n ≤ 8 ⌝ }
     requires { ⌜ Raisable (slots 8 (now row)) n m raise ⌝ }
-    ensures { λ _. ⌜ Kept (now (row .exit)) ⌝ }
+    ensures { λ _. ⌜ Canonical (now (row .exit)) ⌝ }
     ensures { λ _. ⌜ slots 8 (now (row .exit)) ≡ mapTo n (raiseWith m raise) (slots 8 (now (row .entry))) ⌝ }
 {
     let table = TABLE;

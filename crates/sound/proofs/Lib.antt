@@ -1,7 +1,7 @@
 pub mod TestLaws
 pub mod WalkLaws
 pub mod AloneLaws
-pub mod TicketLaws
+pub mod TicketMaskLaws
 pub mod MeetLaws
 pub mod SoundLaws
 pub mod DiskLaws

@@ -17,7 +17,7 @@ use Rattle.law.specs.Types.{Attribute, Kind, attr, Core, Disk as LawDisk, Item,
 use Rattle.law.specs.Fields.{ValueFits}
 use Rattle.law.specs.Sound.{LimitFits, Sound}
 use Rattle.law.specs.Entries.{kindOf}
-use Rattle.law.specs.Granting.{tellBy, granted, grantItem}
+use Rattle.law.specs.Granting.{toldBy, granted, grantItem}
 use Rattle.law.specs.Calls.{item, at, asked, opened, openRefusals, openDisk, finish, without}
 use Rattle.law.specs.History.{Call as LawCall, claims, releases, answered}
 use Rattle.law.specs.Events.{After, by-rules, claim-after, release-after, pass-keeps}
@@ -26,16 +26,16 @@ use Rattle.law.specs.FitLaws.{Fit, fit-grant}
 use Rattle.law.specs.SoundKept.{sound-fit, sound-finish}
 use Rattle.law.specs.ProperLaws.{proper-kind, disk-proper}
 use Rattle.law.specs.DiskType.{diskTable}
-use Rattle.rules.proofs.RangeLaws.{limit-most, error-most, limit-range, tell-range}
+use Rattle.rules.proofs.RangeLaws.{limit-most, error-most, limit-range, told-most}
 use Rattle.part.specs.Held.{held}
 use Rattle.part.specs.PartLaws.{sound-held}
 use Rattle.answer.specs.declared.Answer.{Answer}
 use Rattle.answer.specs.declared.Answer.the-variants as A
 use Rattle.answer.specs.Answers.{codeOf, ticketOf}
-use Rattle.desk.specs.Record.{diskOf, nowOf, askedOf, callOf, usedLimit, promisedLimit}
+use Rattle.desk.specs.Record.{diskNumber, nowOf, askedIn, callOf, usedLimit, promisedLimit}
 use Rattle.desk.specs.Board.{partOf}
-use Rattle.desk.specs.Step.{answerOf, Said, refuses, tells, ownOf, grantsOf, settled, serveOf, opening, tellOf}
-use Rattle.desk.specs.StepLaws.{by-answer, by-call, by-serve, by-tell}
+use Rattle.desk.specs.Step.{answerOf, Said, refuses, accepts, ownOf, grantsOf, settled, serveOf, opening, effectOf}
+use Rattle.desk.specs.StepLaws.{by-answer, by-call, by-serve, by-effect}
 use Rattle.stopblocker.specs.LineLaws.{ItemFits, GrantFits}
 
 -- ---- items
@@ -69,7 +69,7 @@ grant-fits s ahead c g values limits e first below =
       fits =
           record {
             ticket = below;
-            told = size-fits w32 (tellBy (s .figures) k) (omega (arith, tell-range (s .figures) k (proper-kind diskTable disk-proper (c .method)) values)) .sfits;
+            told = size-fits w32 (toldBy (s .figures) k) (omega (arith, told-most (s .figures) k (proper-kind diskTable disk-proper (c .method)) values)) .sfits;
             amount =
                 omega (
                   arith,
@@ -136,7 +136,7 @@ call-fits d (releases now n) h f =
 
 abbrev pub SaidFits : Said → Type 0
 SaidFits (refuses x) = Unit {0}
-SaidFits (tells items) = ItemsFit items
+SaidFits (accepts items) = ItemsFit items
 
 settled-fits : (p : List ℕ) (o : Outcome) → After (λ e items. ItemsFit items) o → SaidFits (settled p o .said)
 settled-fits p (refused n) h = tt
@@ -154,7 +154,7 @@ open-fits now l0 l1 =
 
 module _ (b r : List ℕ) (bs : Bytes r) where
   record-fits : CallFits (callOf r)
-  unfolding askedOf
+  unfolding askedIn
   record-fits = by-call CallFits r (word-at-fits r 20 bs) (word-at-fits r 12 bs)
 
   serve-fits : (p : List ℕ) → SaidFits (serveOf p (callOf r) .said)
@@ -162,12 +162,12 @@ module _ (b r : List ℕ) (bs : Bytes r) where
       by-serve (λ t. SaidFits (t .said)) p (callOf r) tt
       (λ s. settled-fits p (answered diskTable (held p) (callOf r)) (call-fits (held p) (callOf r) (sound-held p s) record-fits))
 
-  pub told-fits : SaidFits (tellOf b r .said)
+  pub told-fits : SaidFits (effectOf b r .said)
   told-fits =
-      by-tell (λ t. SaidFits (t .said)) b r (λ x. tt)
+      by-effect (λ t. SaidFits (t .said)) b r (λ x. tt)
       (λ w known o.
-      opening-fits b (diskOf r) (openDisk (nowOf r) (usedLimit r) (promisedLimit r)) (open-fits (nowOf r) (usedLimit r) (promisedLimit r)))
-      (λ w known o. serve-fits (partOf b (diskOf r)))
+      opening-fits b (diskNumber r) (openDisk (nowOf r) (usedLimit r) (promisedLimit r)) (open-fits (nowOf r) (usedLimit r) (promisedLimit r)))
+      (λ w known o. serve-fits (partOf b (diskNumber r)))
 
 -- ---- what is said, as answers
 
@@ -205,14 +205,14 @@ shows (refuses x) h =
       fit = tt;
       grant = tt;
     }
-shows (tells []) h =
+shows (accepts []) h =
     record {
       own = record { ticket = omega arith; told = omega arith; amount = omega arith };
       few = omega arith;
       fit = tt;
       grant = tt;
     }
-shows (tells (i ∷ items)) h =
+shows (accepts (i ∷ items)) h =
     record {
       own = item-fits i (h .0);
       few = omega (arith, length-map items answerOf, h .2);

@@ -8,7 +8,7 @@ use lib.ListN.{length}
 use Rattle.num.specs.Word.{Bytes}
 use Rattle.law.specs.Lists.{All}
 use Rattle.desk.specs.Board.{boardBytes}
-use Rattle.desk.specs.Step.{Said, ownOf, grantsOf, tellOf, Stepped, written, stepOf}
+use Rattle.desk.specs.Step.{Said, ownOf, grantsOf, effectOf, Stepped, written, stepOf}
 use Rattle.stopblocker.specs.Lines.{linesOf, answerLine, plusLines}
 use Rattle.stopblocker.specs.Answering.{called, shownDisk, answerLines}
 use Rattle.stopblocker.specs.LineLaws.{lines-shown}
@@ -17,12 +17,12 @@ use Rattle.stopblocker.specs.SaidLaws.{Granting, shows, told-fits}
 module _ (b r : List ℕ) (whole : length b ≡ boardBytes) (bs : Bytes r) where
   -- What the call says, and the disk that is shown.
   abbrev said : Said
-  said = tellOf b r .said
+  said = effectOf b r .said
 
   abbrev disk : ℕ
   disk = shownDisk (called b r .code) r
 
-  called-is : called b r ≡ written (tellOf b r)
+  called-is : called b r ≡ written (effectOf b r)
   unfolding stepOf
   called-is = rw (eq-eqb (length b) boardBytes whole)
 

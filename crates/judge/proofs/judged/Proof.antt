@@ -17,7 +17,7 @@ use Rattle.law.specs.declared.Attr.{Attr}
 use Rattle.law.specs.declared.Claim.{Claim}
 use Rattle.law.specs.Types.{Core, Asked as LawAsked, refused, claimOf}
 use Rattle.law.specs.Entries.{kindOf}
-use Rattle.law.specs.Granting.{tellBy, grantItem}
+use Rattle.law.specs.Granting.{toldBy, grantItem}
 use Rattle.law.specs.Calls.{asked, grantedAtOnce}
 use Rattle.law.specs.DiskType.{diskTable}
 use Rattle.rules.specs.Methods.{figuresOf}
@@ -40,8 +40,8 @@ module _ (d : Disk) {u p t : Attr} {c e : Claim} (hu : u ≡ d .used) (hp : p �
       n ≡ firstNumber (firstRules (figuresIn d) (d .clock) now e)
   number-by now hw h = rw (hu, hp, ht, hc, hw) at h
 
-  tells-by : {z : ℤ} → z ≡ tellBy (figuresOf u p t) (kindOf diskTable c) → z ≡ tellBy (figuresIn d) (kindOf diskTable e)
-  tells-by h = rw (hu, hp, ht, hc) at h
+  told-by : {z : ℤ} → z ≡ toldBy (figuresOf u p t) (kindOf diskTable c) → z ≡ toldBy (figuresIn d) (kindOf diskTable e)
+  told-by h = rw (hu, hp, ht, hc) at h
 
 decided-by : (ws : List Claim) {ok : Bool} {sum n m : ℕ} {s : Core} {c e : Claim} → n ≡ m → c ≡ e →
     DecidedIs ok sum s (take n ws) c → DecidedIs ok sum s (take m ws) e
@@ -126,11 +126,11 @@ takes k g =
     (sym (decision k) ∙ g) (decided k .counts g)
 
 -- What is told is the law's.
-tells : (t : tie.After-told) →
-    t .told .result ≡ tellBy (figuresIn (disk (tests (t .before .before)))) (kindOf diskTable (wanted (tests (t .before .before))))
-tells t =
+told-is : (t : tie.After-told) →
+    t .told .result ≡ toldBy (figuresIn (disk (tests (t .before .before)))) (kindOf diskTable (wanted (tests (t .before .before))))
+told-is t =
     let k = tests (t .before .before) in
-    tells-by (disk k) (k .before .before .before .before .used-at .ensures) (k .before .before .before .promised-at .ensures) (k .before .before .state-at .ensures) (wanted-is k) (t .told .ensures .0)
+    told-by (disk k) (k .before .before .before .before .used-at .ensures) (k .before .before .before .promised-at .ensures) (k .before .before .state-at .ensures) (wanted-is k) (t .told .ensures .0)
 
 -- So many claims wait.
 line : (k : tie.After-decide) → length (take (disk (tests k) .waitings) (disk (tests k) .waiting)) ≡ k .before .word-at3 .result
@@ -189,7 +189,7 @@ told-requires c κs = search needs
 
 narrow-requires : tie.Need-narrow-requires
 narrow-requires c κs =
-    let z : size (c .told .result) ≤ 2000000000 = omega (arith, ap size (tells c), takes (c .before .before) (c .before .if2 .taken) .tells) in
+    let z : size (c .told .result) ≤ 2000000000 = omega (arith, ap size (told-is c), takes (c .before .before) (c .before .if2 .taken) .told) in
     rw (toZ-ofZ (size-fits w64 (c .told .result) (omega (arith, c .told .ensures .1)))) (omega (arith, z))
 
 cast-t19 : tie.Need-cast-t19
@@ -201,10 +201,10 @@ returns-2 c =
     let t = c .before .before in
     let k = t .before .before in
     let g = takes k (t .before .if2 .taken) in
-    let z : c .before .narrow .result ≡ tellBy (figuresIn (disk (tests k))) (kindOf diskTable (wanted (tests k))) =
-    c .before .narrow .ensures ∙ toZ-ofZ (size-fits w64 (t .told .result) (omega (arith, t .told .ensures .1))) ∙ tells t in
+    let z : c .before .narrow .result ≡ toldBy (figuresIn (disk (tests k))) (kindOf diskTable (wanted (tests k))) =
+    c .before .narrow .ensures ∙ toZ-ofZ (size-fits w64 (t .told .result) (omega (arith, t .told .ensures .1))) ∙ told-is t in
     granted-shown (next-is (tests k))
-    (toZ-ofZ (size-fits w32 (c .before .narrow .result) (omega (arith, ap size z, g .tells))) ∙ z) (g .counts)
+    (toZ-ofZ (size-fits w32 (c .before .narrow .result) (omega (arith, ap size z, g .told))) ∙ z) (g .counts)
     ∙ ap shownBy (sym (claim-granted (diskOf (disk (tests k))) (request k) (passed k) (sym (decision k) ∙ t .before .if2 .taken)))
 
 unjudged-requires-2 : tie.Need-unjudged-requires-2

@@ -6,7 +6,7 @@ use borrow.Author.Needs.{needs}
 use mir.Facts.{toZ-ofZ}
 use Rattle.num.specs.Runs.{splice}
 use Rattle.law.specs.Entries.{kindAt, kindOf}
-use Rattle.law.specs.Granting.{tellBy, grantItem}
+use Rattle.law.specs.Granting.{toldBy, grantItem}
 use Rattle.law.specs.DiskType.{diskTable}
 use Rattle.rules.specs.Methods.{figuresOf}
 use Rattle.rules.specs.declared.disk.Disk.{Disk}
@@ -22,12 +22,12 @@ abbrev disk : tie.Start → Disk
 disk k = decode (k .args .s .now)
 
 -- What it is told, and that in 32 bits.
-told-is : (t : tie.After-told) → let k = t .before .before .before .before .before .before .before .before .before in t .told .result ≡ tellBy (figuresIn (disk k)) (kindOf diskTable (k .args .c))
+told-is : (t : tie.After-told) → let k = t .before .before .before .before .before .before .before .before .before in t .told .result ≡ toldBy (figuresIn (disk k)) (kindOf diskTable (k .args .c))
 told-is t =
     t .told .ensures .0
-    ∙ (λ j. tellBy (figuresOf (t .before .before .before .before .before .used-at .ensures j) (t .before .before .before .promised-at .ensures j) (t .before .state-at .ensures j)) (kindAt diskTable (t .before .before .before .before .before .before .before .before .before .args .c .method)))
+    ∙ (λ j. toldBy (figuresOf (t .before .before .before .before .before .used-at .ensures j) (t .before .before .before .promised-at .ensures j) (t .before .state-at .ensures j)) (kindAt diskTable (t .before .before .before .before .before .before .before .before .before .args .c .method)))
 
-sum-is : (n : tie.After-narrow) → let k = n .before .before .before .before .before .before .before .before .before .before in n .narrow .result ≡ tellBy (figuresIn (disk k)) (kindOf diskTable (k .args .c))
+sum-is : (n : tie.After-narrow) → let k = n .before .before .before .before .before .before .before .before .before .before in n .narrow .result ≡ toldBy (figuresIn (disk k)) (kindOf diskTable (k .args .c))
 sum-is n = n .narrow .ensures ∙ toZ-ofZ (record { sfits = n .before .told .ok }) ∙ told-is (n .before)
 
 used-at-requires : tie.Need-used-at-requires

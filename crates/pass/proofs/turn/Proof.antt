@@ -21,11 +21,11 @@ use Rattle.judge.specs.Decisions.{activesIn, DecidedIs}
 use Rattle.judge.proofs.ReadLaws.{actives-read}
 use Rattle.judge.proofs.DecideLaws.{full-waits, never-waits}
 use Rattle.rules.specs.declared.disk.Disk.{Disk}
-use Rattle.rules.specs.Disks.{figuresIn, coreIn, diskOf, DiskIs, grantOf, TellFits}
+use Rattle.rules.specs.Disks.{figuresIn, coreIn, diskOf, DiskIs, grantOf, ToldFits}
 use Rattle.part.specs.Layout.{decode}
 use Rattle.answer.specs.Answers.{itemBytes}
 use Rattle.pass.specs.Turns.{grantAnswer, tried, front, TurnBy}
-use Rattle.pass.proofs.PassLaws.{tell-fits, total-most}
+use Rattle.pass.proofs.PassLaws.{told-fits, total-most}
 use Rattle.pass.proofs.turn.Statement.{statement}
 use Rattle.pass.proofs.turn.Tie as tie
 
@@ -158,7 +158,7 @@ give-requires c κs =
           (
             subst (MayGrant diskTable (coreIn (disk k))) e (may b),
             (
-              subst (TellFits (disk k)) e (tell-fits (disk k) (k .args .i) (k .pre .1 .1 .1 .0)),
+              subst (ToldFits (disk k)) e (told-fits (disk k) (k .args .i) (k .pre .1 .1 .1 .0)),
               (sum b ∙ ap (total diskTable (coreIn (disk k))) e, (k .pre .1 .1 .1 .1 .1 .1 .0, omega (arith, place k))),
             ),
           ),

@@ -10,13 +10,13 @@ use Rattle.law.specs.declared.Claim.{Claim}
 use Rattle.rules.specs.Rows.{noClaim, Row}
 use Rattle.rules.specs.RowLaws.{clear-last}
 use Rattle.part.specs.Layout.{slots}
-use Rattle.slots.specs.Slots.{Kept}
+use Rattle.slots.specs.Slots.{Canonical}
 use Rattle.slots.proofs.clear_from.Statement.{statement}
 use Rattle.slots.proofs.clear_from.Tie as tie
 
 abbrev Inv-loop : tie.InvT-loop
 Inv-loop row₀ k n none m₀ row m =
-    (k ≤ m) × (length row ≡ length row₀) × Kept row × Row (slots 8 row) m × (take k (slots 8 row) ≡ take k (slots 8 row₀))
+    (k ≤ m) × (length row ≡ length row₀) × Canonical row × Row (slots 8 row) m × (take k (slots 8 row) ≡ take k (slots 8 row₀))
 
 abbrev μ-loop : tie.MeasureT-loop
 μ-loop row₀ k n none m₀ row m = m - k

@@ -12,7 +12,7 @@ use Rattle.rules.specs.PlaceLaws.{queue-place}
 use Rattle.rules.specs.RowLaws.{store-row, store-last, insert-turn, insert-end}
 use Rattle.part.specs.Layout.{slots}
 use Rattle.part.specs.SlotLaws.{slot-at}
-use Rattle.slots.specs.Slots.{Kept}
+use Rattle.slots.specs.Slots.{Canonical}
 use Rattle.slots.proofs.queue_in.Statement.{statement}
 use Rattle.slots.proofs.queue_in.Tie as tie
 
@@ -20,7 +20,7 @@ abbrev Inv-loop : tie.InvT-loop
 Inv-loop row₀ n y₀ i₀ row y i =
     (i ≤ n)
     × (length row ≡ length row₀)
-    × Kept row
+    × Canonical row
     × Row (slots 8 row) n
     × (insertAt i y (take n (slots 8 row)) ≡ queue y₀ (take n (slots 8 row₀)))
 

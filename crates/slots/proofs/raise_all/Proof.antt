@@ -16,14 +16,14 @@ use Rattle.rules.specs.Pairs.{letsBy}
 use Rattle.rules.proofs.EntryLaws.{found-at}
 use Rattle.part.specs.Layout.{slots}
 use Rattle.part.specs.SlotLaws.{length-slots, slot-at}
-use Rattle.slots.specs.Slots.{Kept, mapTo, raiseWith, raiseBy}
+use Rattle.slots.specs.Slots.{Canonical, mapTo, raiseWith, raiseBy}
 use Rattle.slots.specs.SlotsLaws.{raise-amount, to-back, to-step}
 use Rattle.slots.proofs.raise_all.Statement.{statement}
 use Rattle.slots.proofs.raise_all.Tie as tie
 
 abbrev Inv-loop : tie.InvT-loop
 Inv-loop row₀ n m raise table col i₀ row i =
-    (i ≤ n) × (length row ≡ length row₀) × Kept row × (slots 8 row ≡ mapTo i (raiseWith m raise) (slots 8 row₀))
+    (i ≤ n) × (length row ≡ length row₀) × Canonical row × (slots 8 row ≡ mapTo i (raiseWith m raise) (slots 8 row₀))
 
 abbrev μ-loop : tie.MeasureT-loop
 μ-loop row₀ n m raise table col i₀ row i = n - i

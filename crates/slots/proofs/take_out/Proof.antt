@@ -10,7 +10,7 @@ use Rattle.rules.specs.Rows.{Row, removeAt}
 use Rattle.rules.specs.RowLaws.{store-row, remove-turn, remove-end, clear-last}
 use Rattle.part.specs.Layout.{slots}
 use Rattle.part.specs.SlotLaws.{slot-at}
-use Rattle.slots.specs.Slots.{Kept}
+use Rattle.slots.specs.Slots.{Canonical}
 use Rattle.slots.proofs.take_out.Statement.{statement}
 use Rattle.slots.proofs.take_out.Tie as tie
 
@@ -18,7 +18,7 @@ abbrev Inv-loop : tie.InvT-loop
 Inv-loop row₀ n at last i₀ row i =
     (i ≤ last)
     × (length row ≡ length row₀)
-    × Kept row
+    × Canonical row
     × Row (slots 8 row) n
     × (removeAt i (take n (slots 8 row)) ≡ removeAt at (take n (slots 8 row₀)))
 

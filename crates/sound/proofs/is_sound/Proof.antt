@@ -16,7 +16,7 @@ use Rattle.part.specs.Layout.{decode}
 use Rattle.sound.specs.Tests.{figuresFit, ticketsDiffer, codeFront, codeTests}
 use Rattle.sound.specs.Seen.{SeenIs}
 use Rattle.sound.proofs.TestLaws.{test-fails, test-last}
-use Rattle.sound.proofs.TicketLaws.{free-apart}
+use Rattle.sound.proofs.TicketMaskLaws.{free-apart}
 use Rattle.sound.proofs.DiskLaws.{whole}
 use Rattle.sound.proofs.is_sound.Statement.{statement}
 use Rattle.sound.proofs.is_sound.Tie as tie

@@ -2,7 +2,7 @@
 use native.Mathlib.Omega.{arith}
 use borrow.Author.Needs.{needs, sfits-of}
 use mir.Facts.{toZ-ofZ}
-use Rattle.desk.specs.Record.{askedOf}
+use Rattle.desk.specs.Record.{askedIn}
 use Rattle.desk.proofs.record.asked_in.Statement.{statement}
 use Rattle.desk.proofs.record.asked_in.Tie as tie
 
@@ -48,7 +48,7 @@ word-at-requires-3 c κs = search needs
 
 -- src/record.rt:55:1
 returns : tie.Need-returns
-unfolding askedOf
+unfolding askedIn
 returns c =
     let w = c .before .before .before .before .before .before in
     rw (toZ-ofZ (sfits-of (c .before .signed-at .ok)), w .word-at .ensures, c .before .before .word-at2 .ensures, c .before .signed-at .ensures, c .word-at3 .ensures)

@@ -14,7 +14,7 @@ use Rattle.rules.specs.RowLaws.{row-length}
 use Rattle.law.specs.declared.Claim.{Claim}
 use Rattle.law.specs.Types.{claimOf, Asked as LawAsked, Outcome, refused, accepted}
 use Rattle.law.specs.Entries.{kindOf}
-use Rattle.law.specs.Granting.{tellBy, grantItem}
+use Rattle.law.specs.Granting.{toldBy, grantItem}
 use Rattle.law.specs.Calls.{asked, at, waitItem, claim}
 use Rattle.law.specs.DiskType.{diskTable}
 use Rattle.rules.specs.declared.disk.Disk.{Disk}
@@ -88,12 +88,12 @@ module _ (c : tie.Then2) where
   abbrev own : Item
   own = k .judged .result .own
 
-  pub told-law : own .told ≡ tellBy (figuresIn d) (kindOf diskTable (asked (diskOf d) q))
+  pub told-law : own .told ≡ toldBy (figuresIn d) (kindOf diskTable (asked (diskOf d) q))
   unfolding grantItem
   told-law = ap (λ (j : Judgement). j .own .told) (k .judged .ensures ∙ ap shownBy granted-outcome)
 
   pub told-back : toZ w32 (ofZ w32 (own .told)) ≡ own .told
-  told-back = toZ-ofZ (size-fits w32 (own .told) (omega (arith, ap size told-law, granted-takes .tells)))
+  told-back = toZ-ofZ (size-fits w32 (own .told) (omega (arith, ap size told-law, granted-takes .told)))
 
   -- The answer shows the grant.
   pub shows : {a : List ℕ} → a ≡ answerBytes (A.Granted (own .ticket) (toZ w32 (ofZ w32 (own .told))) (own .amount)) [] →

@@ -11,7 +11,7 @@ use Rattle.num.specs.Fits.{size-fits}
 use Rattle.num.specs.Metric.{size, size-add}
 use Rattle.law.specs.DiskType.{diskTable}
 use Rattle.law.specs.Entries.{kindAt}
-use Rattle.law.specs.Granting.{tellBy}
+use Rattle.law.specs.Granting.{toldBy}
 use Rattle.rules.specs.Methods.{figuresOf}
 use Rattle.rules.proofs.MethodLaws.{told-of}
 use Rattle.rules.proofs.figures.told.Statement.{statement}
@@ -71,7 +71,7 @@ returns c =
     let two = size-add a b in
     let small : size (a +ℤ b +ℤ d) ≤ 6442450944 = omega (arith, size-add (a +ℤ b) d) in
     let back = toZ-ofZ (fits (a +ℤ b +ℤ d) small) in
-    let told : a +ℤ b +ℤ d ≡ tellBy f (kindAt diskTable (s .args .m)) =
+    let told : a +ℤ b +ℤ d ≡ toldBy f (kindAt diskTable (s .args .m)) =
     rw (
       c1 .signed-if-read .ensures .0,
       toZ-ofZ (sfits-of (c1 .before .struct-told .given .0 .1)),

@@ -26,7 +26,7 @@ use Rattle.sound.specs.Tests.{activeFits, mostErrors, activeBy, eachActi
 use Rattle.sound.specs.Seen.{free, Onward}
 use Rattle.sound.proofs.TestLaws.{test-fails, test-last}
 use Rattle.sound.proofs.WalkLaws.{there}
-use Rattle.sound.proofs.TicketLaws.{none-before, free-on}
+use Rattle.sound.proofs.TicketMaskLaws.{none-before, free-on}
 use Rattle.sound.proofs.MeetLaws.{methods-on, methods-end, twice-on, twice-end}
 use Rattle.sound.proofs.AloneLaws.{active-is}
 use Rattle.sound.proofs.DiskLaws.{actives, waitings, clock-read, next-read, actives-read, good}

@@ -18,7 +18,7 @@ use Rattle.rules.specs.RowLaws.{left-on, left-end, every-on, every-not, every-e
 use Rattle.sound.specs.Tests.{waitingFits, mostErrors, waitingBy}
 use Rattle.sound.specs.Seen.{free}
 use Rattle.sound.proofs.WalkLaws.{there}
-use Rattle.sound.proofs.TicketLaws.{none-before, free-on, free-end}
+use Rattle.sound.proofs.TicketMaskLaws.{none-before, free-on, free-end}
 use Rattle.sound.proofs.AloneLaws.{waiting-is}
 use Rattle.sound.proofs.DiskLaws.{waitings, clock-read, next-read, waitings-read, good}
 use Rattle.sound.proofs.waiting.waitings_fit.Statement.{statement}

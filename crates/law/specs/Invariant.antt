@@ -10,13 +10,13 @@ use Rattle.law.specs.declared.Claim.{Claim}
 use Rattle.law.specs.Lists.{All, Pairs, all-say, all-both, all-append, all-there, all-less, pairs-last, all-more, all-grown, pairs-around}
 use Rattle.law.specs.Types.{Attribute, Kind, reads, Table, Figures, attr, Core, Item}
 use Rattle.law.specs.Entries.{kindOf}
-use Rattle.law.specs.Granting.{limitBy, tellBy, carriedBy, amountBy, total, growth, stays, granted, raised, asGranted, grant, grantItem}
+use Rattle.law.specs.Granting.{limitBy, toldBy, carriedBy, amountBy, total, growth, stays, granted, raised, asGranted, grant, grantItem}
 use Rattle.law.specs.Calls.{without, landed}
 use Rattle.law.specs.QueueLaws.{ended-cases, all-without}
 use Rattle.law.specs.TicketLaws.{Apart, Ticketed, ticketed-end, ticketed-leave, ticketed-new, ticketed-grant}
 use Rattle.law.specs.GrantLaws.{NotNever, MayGrant, grant-says}
 use Rattle.law.specs.Near.{gapOn, shareOf}
-use Rattle.law.specs.Held.{Held, held-grant, held-start, held-end}
+use Rattle.law.specs.Covered.{Covered, covered-grant, covered-start, covered-end}
 
 -- An item of a grant has been given, and its claim does not wait.
 abbrev pub Given : ℕ → List Claim → Item → Type 0
@@ -32,7 +32,7 @@ module _ (t : Table) where
     pub z : Attribute → ℤ
     pub share : Attribute → ℕ
     pub told : i .told ≡ r .told
-    pub held : Held t f active m (i .carried) r z share
+    pub held : Covered t f active m (i .carried) r z share
 
   abbrev pub Borne : Figures → List Claim → Item → Claim → Type 0
   Borne f active i r = r .ticket ≡ i .ticket → (m : ℕ) → kindOf t r ≡ reads m → Bears f active m i r
@@ -41,7 +41,7 @@ module _ (t : Table) where
   AllBorne f active i = i .code ≡ 0 → All (Borne f active i) active
 
   -- What holds of the figures, the claims, the next ticket and the answers given so far.
-  pub record Kept (f : Figures) (active waiting : List Claim) (next : ℕ) (past : List Item) : Type 0 where
+  pub record Invariant (f : Figures) (active waiting : List Claim) (next : ℕ) (past : List Item) : Type 0 where
     pub tickets : Ticketed next active waiting
     pub given : All (Given next waiting) past
     pub once : Pairs Once past
@@ -49,7 +49,7 @@ module _ (t : Table) where
 
   -- An answer that grants nothing changes nothing.
   pub kept-note : {f : Figures} {active waiting : List Claim} {next : ℕ} {past : List Item} (i : Item) → (i .code ≡ 0 → ⊥) →
-      Kept f active waiting next past → Kept f active waiting next (past ++ (i ∷ []))
+      Invariant f active waiting next past → Invariant f active waiting next (past ++ (i ∷ []))
   kept-note {f} {active} {waiting} {next} {past} i other h =
       record {
         tickets = h .tickets;
@@ -60,7 +60,7 @@ module _ (t : Table) where
 
   -- A new claim takes the next ticket and waits, at whatever place.
   pub kept-new : {f : Figures} {active : List Claim} {next : ℕ} {past : List Item} (xs ys : List Claim) (c : Claim) →
-      c .ticket ≡ next → Kept f active (xs ++ ys) next past → Kept f active (xs ++ (c ∷ ys)) (next + 1) past
+      c .ticket ≡ next → Invariant f active (xs ++ ys) next past → Invariant f active (xs ++ (c ∷ ys)) (next + 1) past
   kept-new {next = next} {past = past} xs ys c e h =
       record {
         tickets = ticketed-new xs ys c e (h .tickets);
@@ -76,7 +76,7 @@ module _ (t : Table) where
 
   -- A waiting claim ends.
   pub kept-leave : {f : Figures} {active : List Claim} {next : ℕ} {past : List Item} (xs : List Claim) (w : Claim) (ys : List Claim) →
-      Kept f active (xs ++ (w ∷ ys)) next past → Kept f active (xs ++ ys) next past
+      Invariant f active (xs ++ (w ∷ ys)) next past → Invariant f active (xs ++ ys) next past
   kept-leave {next = next} {past = past} xs w ys h =
       record {
         tickets = ticketed-leave xs w ys (h .tickets);
@@ -90,7 +90,7 @@ module _ (t : Table) where
 
   -- The claim of ticket n ends, if it is active.
   pub kept-end : {f : Figures} {active waiting : List Claim} {next : ℕ} {past : List Item} (n : ℕ) →
-      Kept f active waiting next past → Kept (landed t f n active) (without n active) waiting next past
+      Invariant f active waiting next past → Invariant (landed t f n active) (without n active) waiting next past
   kept-end {f} {active} {waiting} {next} {past} n h =
       record {
         tickets =
@@ -109,7 +109,7 @@ module _ (t : Table) where
               z = old .z;
               share = old .share;
               told = old .told;
-              held = held-end t f active n m (i .carried) r (old .z) (old .share) (old .held);
+              held = covered-end t f active n m (i .carried) r (old .z) (old .share) (old .held);
             })
             active (g z)))
             past (h .borne);
@@ -124,12 +124,12 @@ module _ (t : Table) where
   -- The grant of a claim that waits: the readings before it are raised, and its own answer begins its own bound.
   pub kept-grant : (s : Core) {next : ℕ} {past : List Item} (ahead : List Claim) (c : Claim) (xs ys : List Claim) →
       granted t s ahead c ≡ true →
-      Kept (s .figures) (s .active) (xs ++ (c ∷ ys)) next past →
-      Kept (grant t s c .figures) (grant t s c .active) (xs ++ ys) next (past ++ (grantItem t s c ∷ []))
+      Invariant (s .figures) (s .active) (xs ++ (c ∷ ys)) next past →
+      Invariant (grant t s c .figures) (grant t s c .active) (xs ++ ys) next (past ++ (grantItem t s c ∷ []))
   unfolding grant grantItem
   kept-grant s {next} {past} ahead c xs ys ok h =
       record {
-        tickets = ticketed-grant xs c ys (tellBy f (kindOf t c)) (amountBy (kindOf t c) (total t s c)) (growth t s c) (h .tickets);
+        tickets = ticketed-grant xs c ys (toldBy f (kindOf t c)) (amountBy (kindOf t c) (total t s c)) (growth t s c) (h .tickets);
         given =
             all-append (Given next (xs ++ ys)) past (i′ ∷ []) (kept-leave xs c ys h .given) (
               (λ z. (
@@ -191,7 +191,7 @@ module _ (t : Table) where
             z = old .z;
             share = λ a. old .share a + gapOn f a (kindOf t c) (c .value);
             told = old .told;
-            held = held-grant t s c m (i .carried) r (old .z) (old .share) p never stay (old .held);
+            held = covered-grant t s c m (i .carried) r (old .z) (old .share) p never stay (old .held);
           }
 
       begin : (m : ℕ) → kindOf t c ≡ reads m → Bears f′ active′ m i′ (asGranted t s c)
@@ -203,7 +203,7 @@ module _ (t : Table) where
             held =
                 subst
                 (λ (e : ℕ).
-                Held t f′ active′ m e (asGranted t s c) (λ a. attr f a .value) (λ a. shareOf t a f (s .active) + gapOn f a (kindOf t c) (c .value)))
+                Covered t f′ active′ m e (asGranted t s c) (λ a. attr f a .value) (λ a. shareOf t a f (s .active) + gapOn f a (kindOf t c) (c .value)))
                 (sym (ap (carriedBy f) p))
-                (held-start t s c m p (may .noNever) (subst (λ (k : Kind). total t s c ≤ limitBy f k (c .error)) p (may .inLimit)));
+                (covered-start t s c m p (may .noNever) (subst (λ (k : Kind). total t s c ≤ limitBy f k (c .error)) p (may .inLimit)));
           }

@@ -14,7 +14,7 @@ use Rattle.law.specs.declared.Entry.the-variants.{A, N, G}
 use Rattle.law.specs.Base.{sumOf}
 use Rattle.law.specs.Lists.{All, never-true}
 use Rattle.law.specs.Types.{Attribute, within, metric, Kind, sets, adds, reads, Table, Figures, attr, Core}
-use Rattle.law.specs.Granting.{gapBy, costBy, raisesBy, tellBy, amountBy, gap, stays, total, raised, asGranted, grant}
+use Rattle.law.specs.Granting.{gapBy, costBy, raisesBy, toldBy, amountBy, gap, stays, total, raised, asGranted, grant}
 use Rattle.law.specs.GrantLaws.{start-reads}
 use Rattle.law.specs.Calls.{landed, without}
 use Rattle.law.specs.AttributeLaws.{note-same}
@@ -70,16 +70,16 @@ stays-within false x g l h k = omega arith
 
 module _ (t : Table) where
   -- The reading r of mask m, granted while the figures carried e, was told z and has these shares.
-  pub record Held (f : Figures) (ws : List Claim) (m e : ℕ) (r : Claim) (z : Attribute → ℤ) (share : Attribute → ℕ) : Type 0 where
+  pub record Covered (f : Figures) (ws : List Claim) (m e : ℕ) (r : Claim) (z : Attribute → ℤ) (share : Attribute → ℕ) : Type 0 where
     pub near : (a : Attribute) → Near t a (z a) (share a) (attr f a .value) ws
     pub told-is : r .told ≡ toldRead m z
     pub counted : e + sumRead m share ≤ r .amount
     pub inside : r .amount ≤ r .error
 
   -- Demand 3 for one reading, without a subtraction.
-  pub held-bound : (f : Figures) (ws : List Claim) (m e : ℕ) (r : Claim) (z : Attribute → ℤ) (share : Attribute → ℕ) →
-      Held f ws m e r z share → dist (r .told) (present f m) + e ≤ r .error
-  held-bound f ws m e r z share h =
+  pub covered-bound : (f : Figures) (ws : List Claim) (m e : ℕ) (r : Claim) (z : Attribute → ℤ) (share : Attribute → ℕ) →
+      Covered f ws m e r z share → dist (r .told) (present f m) + e ≤ r .error
+  covered-bound f ws m e r z share h =
       omega (
         arith,
         h .counted,
@@ -89,11 +89,11 @@ module _ (t : Table) where
       )
 
   -- The grant of another claim.
-  pub held-grant : (s : Core) (c : Claim) (m e : ℕ) (r : Claim) (z : Attribute → ℤ) (share : Attribute → ℕ) →
-      kindOf t r ≡ reads m → isNever (entry t r c) ≡ false → stays t s c r ≡ true → Held (s .figures) (s .active) m e r z share →
-      Held (grant t s c .figures) (grant t s c .active) m e (raised t s c r) z (λ a. share a + gapOn (s .figures) a (kindOf t c) (c .value))
+  pub covered-grant : (s : Core) (c : Claim) (m e : ℕ) (r : Claim) (z : Attribute → ℤ) (share : Attribute → ℕ) →
+      kindOf t r ≡ reads m → isNever (entry t r c) ≡ false → stays t s c r ≡ true → Covered (s .figures) (s .active) m e r z share →
+      Covered (grant t s c .figures) (grant t s c .active) m e (raised t s c r) z (λ a. share a + gapOn (s .figures) a (kindOf t c) (c .value))
   unfolding grant
-  held-grant s c m e r z share p never stay h =
+  covered-grant s c m e r z share p never stay h =
       record {
         near =
             λ a.
@@ -130,13 +130,13 @@ module _ (t : Table) where
         shares-cost s c m ws (h .1),
       )
 
-  pub held-start : (s : Core) (c : Claim) (m : ℕ) →
+  pub covered-start : (s : Core) (c : Claim) (m : ℕ) →
       kindOf t c ≡ reads m → All (λ w. isNever (entry t w c) ≡ false) (s .active) → total t s c ≤ c .error →
-      Held (grant t s c .figures) (grant t s c .active) m (carried (s .figures) m) (asGranted t s c)
+      Covered (grant t s c .figures) (grant t s c .active) m (carried (s .figures) m) (asGranted t s c)
       (λ a. attr (s .figures) a .value)
       (λ a. shareOf t a (s .figures) (s .active) + gapOn (s .figures) a (kindOf t c) (c .value))
   unfolding grant total
-  held-start s c m p never fits =
+  covered-start s c m p never fits =
       record {
         near =
             λ a.
@@ -145,7 +145,7 @@ module _ (t : Table) where
             Near t a (attr (s .figures) a .value) (shareOf t a (s .figures) (s .active) + gapOn (s .figures) a (kindOf t c) (c .value)) v (grant t s c .active))
             (sym (note-same (λ x. x .value) (λ x n. refl) (s .figures) (kindOf t c) (total t s c) a))
             (near-grant t a s c (attr (s .figures) a .value) (shareOf t a (s .figures) (s .active)) (s .active) (near-start t a (s .figures) (s .active)));
-        told-is = ap (tellBy (s .figures)) p;
+        told-is = ap (toldBy (s .figures)) p;
         counted =
             omega (
               arith,
@@ -164,9 +164,9 @@ module _ (t : Table) where
       }
 
   -- The end of a claim.
-  pub held-end : (f : Figures) (ws : List Claim) (n m e : ℕ) (r : Claim) (z : Attribute → ℤ) (share : Attribute → ℕ) →
-      Held f ws m e r z share → Held (landed t f n ws) (without n ws) m e r z share
-  held-end f ws n m e r z share h =
+  pub covered-end : (f : Figures) (ws : List Claim) (n m e : ℕ) (r : Claim) (z : Attribute → ℤ) (share : Attribute → ℕ) →
+      Covered f ws m e r z share → Covered (landed t f n ws) (without n ws) m e r z share
+  covered-end f ws n m e r z share h =
       record {
         near = λ a. near-end t a f n (z a) (share a) ws (h .near a);
         told-is = h .told-is;

@@ -10,12 +10,12 @@ use Rattle.law.specs.Lists.{All, Pairs, all-say, all-append, pairs-join}
 use Rattle.law.specs.Types.{Disk as LawDisk}
 use Rattle.law.specs.Granting.{grantItem}
 use Rattle.law.specs.Events.{After, claim-after, release-after}
-use Rattle.law.specs.History.{Call as LawCall, claims, releases, answered}
+use Rattle.law.specs.History.{Call, claims, releases, answered}
 use Rattle.law.specs.DiskType.{diskTable}
-use Rattle.desk.specs.Record.{diskOf, callOf}
+use Rattle.desk.specs.Record.{diskNumber, callOf}
 use Rattle.desk.specs.Board.{disks, partOf}
 use Rattle.part.specs.Held.{held}
-use Rattle.promises.specs.Histories.{Call, BytesIn, stepBy, saidBy, itemsIn, itemsOn, History, after, lived}
+use Rattle.promises.specs.Histories.{BoardCall, BytesIn, stepBy, saidBy, itemsIn, itemsOn, History, after, lived}
 use Rattle.promises.specs.Asks.{tookBy, tookOn, took}
 use Rattle.promises.specs.CaseLaws.{served-held}
 use Rattle.promises.specs.LifeLaws.{Whole, whole-after}
@@ -52,7 +52,7 @@ rises-join {m} {n} {o} ts us h k =
 
 -- ---- one call on one disk
 
-call-rises : (d : LawDisk) (k : LawCall) → After (λ e items. Rises (d .next) (tookBy items) (e .next)) (answered diskTable d k)
+call-rises : (d : LawDisk) (k : Call) → After (λ e items. Rises (d .next) (tookBy items) (e .next)) (answered diskTable d k)
 unfolding grantItem
 call-rises d (claims q) =
     claim-after diskTable (λ e items. Rises (d .next) (tookBy items) (e .next)) d q
@@ -67,7 +67,7 @@ call-rises d (releases now n) =
 abbrev nextOn : List ℕ → ℕ → ℕ
 nextOn b d = cond (openAt b d) (held (partOf b d) .next) 0
 
-module _ (h : History) (k : Call) (w : Whole h) (bs : BytesIn k) where
+module _ (h : History) (k : BoardCall) (w : Whole h) (bs : BytesIn k) where
   abbrev b : List ℕ
   b = h .board
 
@@ -75,7 +75,7 @@ module _ (h : History) (k : Call) (w : Whole h) (bs : BytesIn k) where
   r = k .asks
 
   abbrev dk : ℕ
-  dk = diskOf (k .asks)
+  dk = diskNumber (k .asks)
 
   abbrev c : List ℕ
   c = stepBy (h .board) k .bytes
@@ -102,7 +102,7 @@ module _ (h : History) (k : Call) (w : Whole h) (bs : BytesIn k) where
 
 -- ---- any calls
 
-pub lived-rises : (h : History) (ks : List Call) → All BytesIn ks → Whole h → (d : ℕ) → d < disks →
+pub lived-rises : (h : History) (ks : List BoardCall) → All BytesIn ks → Whole h → (d : ℕ) → d < disks →
     Rises (nextOn (h .board) d) (took h ks d) (nextOn (lived h ks .board) d)
 unfolding lived took
 lived-rises h [] bs w d l = rises-none (omega arith)
