@@ -7,8 +7,8 @@ use native.Mathlib.Omega.{arith}
 use lib.ListN.{length, getD}
 use borrow.Author.Tests.{lt-ltb, le-ltb, ne-eqb}
 use Rattle.law.specs.declared.Claim.{Claim}
-use Rattle.law.specs.Base.{anyOf}
-use Rattle.law.specs.Lists.{All, all-say, all-left, never-true, none-tests, pairs-cross, all-at}
+use Rattle.law.specs.Base.{anyOf, All}
+use Rattle.law.specs.Lists.{all-say, all-left, never-true, none-tests, pairs-cross, all-at}
 use Rattle.law.specs.Types.{Figures, Disk as LawDisk, refused}
 use Rattle.law.specs.Entries.{kindOf}
 use Rattle.law.specs.Calls.{hasTicket, without, landBy, landed, finish, at, release}

@@ -7,7 +7,8 @@ use borrow.Author.Tests.{eq-eqb, ne-eqb}
 use lib.ListN.{length}
 use Rattle.num.specs.Word.{wordAt}
 use Rattle.law.specs.declared.Claim.{Claim}
-use Rattle.law.specs.Lists.{All, all-append}
+use Rattle.law.specs.Base.{All}
+use Rattle.law.specs.Lists.{all-append}
 use Rattle.law.specs.Types.{Asked as LawAsked, Core, Disk as LawDisk, Item as LawItem, Outcome, refused, accepted}
 use Rattle.law.specs.Granting.{grantItem}
 use Rattle.law.specs.Calls.{pass, claim, release}

@@ -13,10 +13,10 @@ use Rattle.num.specs.Metric.{dist}
 use Rattle.law.specs.declared.Claim.{Claim}
 use Rattle.law.specs.declared.Entry.{Entry}
 use Rattle.law.specs.declared.Entry.the-variants.{A, N, D, G}
-use Rattle.law.specs.Base.{allTrue, everyOf, anyOf, sumOf}
+use Rattle.law.specs.Base.{allTrue, everyOf, anyOf, sumOf, All}
 use Rattle.law.specs.Types.{Kind, sets, adds, reads, Figures}
 use Rattle.law.specs.Entries.{kindAt, kindOf, entryBy, entry, isAlways, isNever}
-use Rattle.law.specs.Lists.{All, all-say, never-true, sum-zero}
+use Rattle.law.specs.Lists.{all-say, never-true, sum-zero}
 use Rattle.law.specs.Granting.{limitBy, gapBy, costBy, raisesBy, start, cost, stays, total, lockStep}
 use Rattle.law.specs.DiskType.{diskTable}
 use Rattle.rules.specs.Rows.{noClaim}

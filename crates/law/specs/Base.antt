@@ -1,4 +1,4 @@
--- The few words that the rules are written with: tests and sums over a list.
+-- The few words that the rules and statements are written with: tests, sums and facts over a list.
 use Prim.Native.Nat.{ℕ, _+_}
 use mathlib.Core.Bool.{Bool, true, false, _&&_, _||_}
 use mathlib.Core.List.{List, [], _∷_}
@@ -27,3 +27,17 @@ everyPair r (x ∷ xs) = everyOf (r x) xs && everyPair r xs
 abbrev pub sumOf : {A : Type 0} → (A → ℕ) → List A → ℕ
 sumOf f [] = 0
 sumOf f (x ∷ xs) = f x + sumOf f xs
+
+-- P holds of every element.
+abbrev pub All : {A : Type 0} → (A → Type 0) → List A → Type 0
+All P [] = Unit {0}
+All P (x ∷ xs) = P x × All P xs
+
+-- R holds of every two elements, the earlier one first.
+abbrev pub Pairs : {A : Type 0} → (A → A → Type 0) → List A → Type 0
+Pairs R [] = Unit {0}
+Pairs R (x ∷ xs) = All (R x) xs × Pairs R xs
+
+-- R holds of every element of the one list with every element of the other.
+abbrev pub Cross : {A : Type 0} → (A → A → Type 0) → List A → List A → Type 0
+Cross R xs ys = All (λ x. All (R x) ys) xs

@@ -6,7 +6,8 @@ use mathlib.Core.Path.{_≡_, refl}
 use native.Mathlib.Omega.{arith}
 use lib.IntN.{ℤ}
 use Rattle.law.specs.declared.Claim.{Claim}
-use Rattle.law.specs.Lists.{All, all-say, all-there, all-less, all-more, all-grown}
+use Rattle.law.specs.Base.{All}
+use Rattle.law.specs.Lists.{all-say, all-there, all-less, all-more, all-grown}
 use Rattle.law.specs.Types.{lastTicket, Attribute, Kind, sets, adds, reads, Table, Figures, attr}
 use Rattle.law.specs.Granting.{noteBy, putTold}
 use Rattle.law.specs.Calls.{landBy}

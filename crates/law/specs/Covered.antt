@@ -11,8 +11,8 @@ use lib.IntN.{ℤ}
 use Rattle.num.specs.Metric.{dist}
 use Rattle.law.specs.declared.Claim.{Claim}
 use Rattle.law.specs.declared.Entry.the-variants.{A, N, G}
-use Rattle.law.specs.Base.{sumOf}
-use Rattle.law.specs.Lists.{All, never-true}
+use Rattle.law.specs.Base.{sumOf, All}
+use Rattle.law.specs.Lists.{never-true}
 use Rattle.law.specs.Types.{Attribute, within, metric, Kind, sets, adds, reads, Table, Figures, attr, Core}
 use Rattle.law.specs.Granting.{gapBy, costBy, raisesBy, toldBy, amountBy, gap, stays, total, raised, asGranted, grant}
 use Rattle.law.specs.GrantLaws.{start-reads}

@@ -4,7 +4,7 @@ use mathlib.Core.Bool.{true, false}
 use mathlib.Core.List.{List, [], _∷_, _++_, append-assoc, append-nil}
 use mathlib.Core.Path.{_≡_, sym, subst}
 use Rattle.law.specs.declared.Claim.{Claim}
-use Rattle.law.specs.Lists.{All}
+use Rattle.law.specs.Base.{All}
 use Rattle.law.specs.Says.{by-test}
 use Rattle.law.specs.Types.{Table, Core, Disk, Asked, Item, Outcome, refused, accepted}
 use Rattle.law.specs.Granting.{granted, grant, grantItem}

@@ -8,7 +8,8 @@ use native.Mathlib.Omega.{arith}
 use lib.ListN.{length}
 use Rattle.num.specs.Metric.{size}
 use Rattle.law.specs.declared.Claim.{Claim}
-use Rattle.law.specs.Lists.{All, Pairs, all-both, all-there, all-less, pairs-less, sum-zero, length-grown, length-more, all-more, pairs-around, sum-there, all-grown, pairs-grown}
+use Rattle.law.specs.Base.{All, Pairs}
+use Rattle.law.specs.Lists.{all-both, all-there, all-less, pairs-less, sum-zero, length-grown, length-more, all-more, pairs-around, sum-there, all-grown, pairs-grown}
 use Rattle.law.specs.Types.{lastTicket, places, Attribute, sets, Table, Proper, attr, Core}
 use Rattle.law.specs.Granting.{toldBy, amountBy, addsOn, total, gap, growth, stays, granted, raised, asGranted, grant}
 use Rattle.law.specs.Calls.{landBy, setClock, finish}

@@ -12,8 +12,8 @@ use Rattle.num.specs.Metric.{size, dist}
 use Rattle.law.specs.declared.Claim.{Claim}
 use Rattle.law.specs.declared.Entry.{Entry}
 use Rattle.law.specs.declared.Entry.the-variants.{A, N, D, G}
-use Rattle.law.specs.Base.{allTrue, everyOf, sumOf}
-use Rattle.law.specs.Lists.{All, never-true, sum-append, sum-map, passed}
+use Rattle.law.specs.Base.{allTrue, everyOf, sumOf, All}
+use Rattle.law.specs.Lists.{never-true, sum-append, sum-map, passed}
 use Rattle.law.specs.Says.{by-test, says-every, says-self, says-fails}
 use Rattle.law.specs.Types.{places, Attribute, a0, a1, a2, Kind, sets, adds, reads, Table, Figures, attr, putAttr, Core, Item}
 use Rattle.law.specs.Granting.{addsTo, startBy, limitBy, costBy, amountBy, withAmount, noteBy, addsOn, addable, bearable, ranged, preconditionTests, preconditions, start, limit, gap, cost, total, stays, lockTests, lockStep, grantTests, granted, raised, asGranted, grant, grantItem}

@@ -13,8 +13,8 @@ use Rattle.num.specs.Metric.{size, dist}
 use Rattle.law.specs.declared.Claim.{Claim}
 use Rattle.law.specs.declared.Entry.{Entry}
 use Rattle.law.specs.declared.Entry.the-variants.{A, N, G}
-use Rattle.law.specs.Base.{allTrue, everyOf, anyOf}
-use Rattle.law.specs.Lists.{All, all-say, all-passed, every-tests, none-tests, sum-zero}
+use Rattle.law.specs.Base.{allTrue, everyOf, anyOf, All}
+use Rattle.law.specs.Lists.{all-say, all-passed, every-tests, none-tests, sum-zero}
 use Rattle.law.specs.Types.{mostError, places, lastTicket, Attribute, a0, a1, a2, metric, within, Kind, sets, adds, reads, Table, attr, Core, Disk, Asked, Item, accepted}
 use Rattle.law.specs.Granting.{costBy, raisesBy, limitBy, toldBy, carriedBy, fresh, addable, bearable, ranged, preconditions, limit, gap, cost, total, stays, lockStep, bars, grantTests, granted, grantItem}
 use Rattle.law.specs.GrantLaws.{start-reads}
@@ -23,50 +23,7 @@ use Rattle.law.specs.Events.{NoneHolds}
 use Rattle.law.specs.Refusals.{accepted-otherwise}
 use Rattle.law.specs.Entries.{entryBy, isAlways, isNever, kindAt, kindOf, entry}
 use Rattle.law.specs.Readings.{everyRead, present, carried}
-
--- ---- the statement's words
-
--- A method of this kind writes what a reading of mask m reads.
-abbrev pub writesWhat : ℕ → Kind → Bool
-writesWhat m (sets a) = within m a
-writesWhat m (adds a) = within m a
-writesWhat m (reads n) = false
-
-module _ (t : Table) where
-  -- A well-formed reading of mask m: a reading's method, no value, no second of measuring, a limit in range.
-  pub record Reading (q : Asked) (m : ℕ) : Type 0 where
-    pub method : q .method < length (t .kinds)
-    pub kind : kindAt t (q .method) ≡ reads m
-    pub value : q .value ≡ pos 0
-    pub measured : q .measured ≡ 0
-    pub stated : q .error ≤ mostError
-
-  -- The mission's conditions.
-  pub record Free (d : Disk) (q : Asked) (m : ℕ) : Type 0 where
-    -- no earlier than that disk's clock
-    pub time : d .core .clock ≤ q .now
-    -- tickets remain
-    pub tickets : d .next ≤ lastTicket
-    -- fewer than eight claims are active
-    pub few : length (d .core .active) < places
-    -- none active and none waiting at equal or higher priority writes what it reads
-    pub noneActive : All (λ w. writesWhat m (kindOf t w) ≡ false) (d .core .active)
-    pub noneWaiting : All (λ w. q .priority ≤ w .priority → writesWhat m (kindOf t w) ≡ false) (d .waiting)
-    -- the carried error is within its limit
-    pub bears : carried (d .core .figures) m ≤ q .error
-    -- the figures are fresh if it asked for that
-    pub freshly : (q .flag ≡ 0 → ⊥) → (a : Attribute) → within m a ≡ true → q .now < attr (d .core .figures) a .stamp + t .valid (q .flag) a
-
--- The answer: told the present sum; the amount is the carried error.
-abbrev pub readingItem : Disk → ℕ → Item
-readingItem d m =
-    record {
-      code = 0;
-      ticket = d .next;
-      told = present (d .core .figures) m;
-      amount = carried (d .core .figures) m;
-      carried = carried (d .core .figures) m;
-    }
+use Rattle.law.specs.Conditions.{writesWhat, Reading, Free, readingItem}
 
 -- ---- a claim that writes nothing of what the reading reads goes with it always
 

@@ -1,6 +1,7 @@
 -- Any calls on one disk from its opening, refused ones among them, and the answers given so far.
 use Prim.Native.Nat.{ℕ}
 use mathlib.Core.List.{List, [], _∷_, _++_}
+use mathlib.Core.Path.{_≡_}
 use Rattle.law.specs.Types.{Table, Disk, Asked, Item, Outcome, refused, accepted}
 use Rattle.law.specs.Calls.{opened, item, claim, release}
 
@@ -32,3 +33,7 @@ module _ (t : Table) where
   unfoldable pub lived : History → List Call → History
   lived h [] = h
   lived h (k ∷ ks) = lived (after h (answered (h .disk) k)) ks
+
+-- Two items do not grant one ticket.
+abbrev pub Once : Item → Item → Type 0
+Once i j = i .code ≡ 0 → j .code ≡ 0 → i .ticket ≡ j .ticket → ⊥

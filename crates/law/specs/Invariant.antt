@@ -7,11 +7,13 @@ use mathlib.Core.Path.{_≡_, refl, sym, ap, subst}
 use native.Mathlib.Omega.{arith}
 use lib.IntN.{ℤ}
 use Rattle.law.specs.declared.Claim.{Claim}
-use Rattle.law.specs.Lists.{All, Pairs, all-say, all-both, all-append, all-there, all-less, pairs-last, all-more, all-grown, pairs-around}
+use Rattle.law.specs.Base.{All, Pairs}
+use Rattle.law.specs.Lists.{all-say, all-both, all-append, all-there, all-less, pairs-last, all-more, all-grown, pairs-around}
 use Rattle.law.specs.Types.{Attribute, Kind, reads, Table, Figures, attr, Core, Item}
 use Rattle.law.specs.Entries.{kindOf}
 use Rattle.law.specs.Granting.{limitBy, toldBy, carriedBy, amountBy, total, growth, stays, granted, raised, asGranted, grant, grantItem}
 use Rattle.law.specs.Calls.{without, landed}
+use Rattle.law.specs.History.{Once}
 use Rattle.law.specs.QueueLaws.{ended-cases, all-without}
 use Rattle.law.specs.TicketLaws.{Apart, Ticketed, ticketed-end, ticketed-leave, ticketed-new, ticketed-grant}
 use Rattle.law.specs.GrantLaws.{NotNever, MayGrant, grant-says}
@@ -21,10 +23,6 @@ use Rattle.law.specs.Covered.{Covered, covered-grant, covered-start, cov
 -- An item of a grant has been given, and its claim does not wait.
 abbrev pub Given : ℕ → List Claim → Item → Type 0
 Given next waiting i = i .code ≡ 0 → (i .ticket < next) × All (λ w. w .ticket ≡ i .ticket → ⊥) waiting
-
--- Two items do not grant one ticket.
-abbrev pub Once : Item → Item → Type 0
-Once i j = i .code ≡ 0 → j .code ≡ 0 → i .ticket ≡ j .ticket → ⊥
 
 module _ (t : Table) where
   -- The reading r is the one of item i, and is held.

@@ -5,21 +5,7 @@ use mathlib.Core.List.{List, [], _∷_, _++_, map}
 use mathlib.Core.Path.{_≡_, refl, ap, _∙_, subst}
 use native.Mathlib.Omega.{arith}
 use lib.ListN.{length, getD, replicate}
-use Rattle.law.specs.Base.{allTrue, everyOf, anyOf, sumOf}
-
--- P holds of every element.
-abbrev pub All : {A : Type 0} → (A → Type 0) → List A → Type 0
-All P [] = Unit {0}
-All P (x ∷ xs) = P x × All P xs
-
--- R holds of every two elements, the earlier one first.
-abbrev pub Pairs : {A : Type 0} → (A → A → Type 0) → List A → Type 0
-Pairs R [] = Unit {0}
-Pairs R (x ∷ xs) = All (R x) xs × Pairs R xs
-
--- R holds of every element of the one list with every element of the other.
-abbrev pub Cross : {A : Type 0} → (A → A → Type 0) → List A → List A → Type 0
-Cross R xs ys = All (λ x. All (R x) ys) xs
+use Rattle.law.specs.Base.{allTrue, everyOf, anyOf, sumOf, All, Pairs, Cross}
 
 -- ---- a false test is not a true one
 

@@ -8,8 +8,8 @@ use native.Mathlib.Omega.{arith}
 use lib.IntN.{ℤ, _+ℤ_}
 use Rattle.num.specs.Metric.{size, dist, dist-self, dist-sym, dist-triangle, dist-add}
 use Rattle.law.specs.declared.Claim.{Claim}
-use Rattle.law.specs.Base.{sumOf}
-use Rattle.law.specs.Lists.{All, all-say, all-there, all-less, never-true, sum-there, all-grown}
+use Rattle.law.specs.Base.{sumOf, All}
+use Rattle.law.specs.Lists.{all-say, all-there, all-less, never-true, sum-there, all-grown}
 use Rattle.law.specs.Types.{Attribute, same, Kind, sets, adds, reads, Table, Figures, attr, Core}
 use Rattle.law.specs.Granting.{addsTo, gapBy, addsOn, raised, asGranted}
 use Rattle.law.specs.Calls.{without, landBy, landed}

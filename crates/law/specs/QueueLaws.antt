@@ -8,7 +8,8 @@ use native.Mathlib.Omega.{arith}
 use lib.Dec.{ltb, eqb}
 use borrow.Author.Tests.{ltb-true, ltb-false, lt-ltb, eqb-true, eqb-false}
 use Rattle.law.specs.declared.Claim.{Claim}
-use Rattle.law.specs.Lists.{all-more, All, Pairs, never-true, all-say}
+use Rattle.law.specs.Base.{All, Pairs}
+use Rattle.law.specs.Lists.{all-more, never-true, all-say}
 use Rattle.law.specs.Says.{by-test}
 use Rattle.law.specs.Types.{Table, Figures}
 use Rattle.law.specs.Calls.{hasTicket, without, landBy, landed, before, queue}

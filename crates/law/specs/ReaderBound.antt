@@ -6,14 +6,15 @@ use mathlib.Core.Path.{_≡_, refl, sym, subst}
 use native.Mathlib.Omega.{arith}
 use Rattle.num.specs.Metric.{dist}
 use Rattle.law.specs.declared.Claim.{Claim}
-use Rattle.law.specs.Lists.{All, Pairs, all-say, all-true}
+use Rattle.law.specs.Base.{All, Pairs}
+use Rattle.law.specs.Lists.{all-say, all-true}
 use Rattle.law.specs.Types.{reads, Table, Core, Disk, Asked, Item}
 use Rattle.law.specs.Granting.{grant, grantItem}
 use Rattle.law.specs.Calls.{opened, item, waitItem, claim, release, asked, at, letGo, finish, without, landed}
-use Rattle.law.specs.History.{Call, claims, releases, History, begun, answered, lived}
+use Rattle.law.specs.History.{Call, claims, releases, History, begun, answered, lived, Once}
 use Rattle.law.specs.Events.{After, claim-after, release-after, pass-keeps, lived-keeps}
 use Rattle.law.specs.Covered.{covered-bound}
-use Rattle.law.specs.Invariant.{Once, AllBorne, Borne, Invariant, kept-note, kept-new, kept-leave, kept-end, kept-grant}
+use Rattle.law.specs.Invariant.{AllBorne, Borne, Invariant, kept-note, kept-new, kept-leave, kept-end, kept-grant}
 use Rattle.law.specs.QueueLaws.{ended-cases, queue-cases}
 use Rattle.law.specs.Entries.{kindOf}
 use Rattle.law.specs.Readings.{present}

@@ -3,7 +3,8 @@
 use Prim.Native.Nat.{ℕ, _≤_}
 use mathlib.Core.List.{List}
 use mathlib.Core.Path.{_≡_, subst}
-use Rattle.law.specs.Lists.{All, all-say}
+use Rattle.law.specs.Base.{All}
+use Rattle.law.specs.Lists.{all-say}
 use Rattle.law.specs.Types.{mostError, Attribute, Kind, reads, Table, Proper, attr, Disk, Outcome, refused, accepted}
 use Rattle.law.specs.Sound.{ReadingBy, Sound}
 use Rattle.law.specs.History.{Call, answered, begun, lived}

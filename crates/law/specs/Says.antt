@@ -7,8 +7,8 @@ use mathlib.Core.Path.{_≡_, refl, ap}
 use borrow.Author.Tests.{ltb-true, leb-true, leb-false, eqb-true, lt-ltb, le-leb, lt-leb, eq-eqb, not-true}
 use lib.Dec.{leb, ltb, eqb}
 use lib.ListN.{getD}
-use Rattle.law.specs.Base.{allTrue, everyOf, anyOf, everyPair}
-use Rattle.law.specs.Lists.{All, Pairs, and-left, and-right}
+use Rattle.law.specs.Base.{allTrue, everyOf, anyOf, everyPair, All, Pairs}
+use Rattle.law.specs.Lists.{and-left, and-right}
 
 -- The test passes exactly if P holds.
 abbrev pub Says : Bool → Type 0 → Type 0

@@ -10,7 +10,7 @@ use Rattle.law.specs.Fields.{FieldsFit, OwnExceeds}
 use Rattle.law.specs.Types.{Table, Disk, Asked}
 use Rattle.law.specs.Calls.{asked, grantedAtOnce}
 use Rattle.law.specs.History.{Call, claims, releases}
-use Rattle.law.specs.Lists.{All}
+use Rattle.law.specs.Base.{All}
 use Rattle.law.specs.Entries.{kindAt}
 
 -- A refusal's number, and when it is given.

@@ -8,8 +8,7 @@ use lib.IntN.{pos}
 use lib.ListN.{length}
 use Rattle.num.specs.Metric.{size}
 use Rattle.law.specs.declared.Claim.{Claim}
-use Rattle.law.specs.Base.{allTrue, everyOf, anyOf, everyPair}
-use Rattle.law.specs.Lists.{All, Pairs}
+use Rattle.law.specs.Base.{allTrue, everyOf, anyOf, everyPair, All, Pairs}
 use Rattle.law.specs.Fields.{ValueFits, FieldsFit, OwnFits}
 use Rattle.law.specs.Types.{mostValue, mostError, mostPriority, mostFlag, places, lastTicket, Attribute, a0, a1, a2, Kind, sets, adds, reads, Table, Figures, attr, Disk}
 use Rattle.law.specs.Granting.{addsOn, statedLimit}

@@ -10,7 +10,8 @@ use lib.IntN.{pos}
 use lib.ListN.{length}
 use borrow.Author.Tests.{leb-true, ltb-false, leb-false, not-false}
 use Rattle.law.specs.declared.Claim.{Claim}
-use Rattle.law.specs.Lists.{All, Pairs, all-say, all-both, all-append, all-left, all-right, pairs-join, pairs-left, pairs-right, pairs-cross, pairs-less, passed, length-more}
+use Rattle.law.specs.Base.{All, Pairs}
+use Rattle.law.specs.Lists.{all-say, all-both, all-append, all-left, all-right, pairs-join, pairs-left, pairs-right, pairs-cross, pairs-less, passed, length-more}
 use Rattle.law.specs.Types.{mostError, mostPriority, mostFlag, places, lastTicket, Attribute, a0, a1, a2, Table, Proper, Figures, attr, Core, Disk, Asked, accepted}
 use Rattle.law.specs.Calls.{without, item, newAttr, opened, openRefusals, openDisk, asked, at, grantedAtOnce, refusals, withGrant, withWait, claim, finish, pass, release}
 use Rattle.law.specs.Sound.{BareBy, ReadingBy, LimitFits, Formed, Passes, claimsOn, Sound}

@@ -6,7 +6,8 @@ use mathlib.Core.Path.{_≡_, sym}
 use native.Mathlib.Omega.{arith}
 use lib.IntN.{ℤ}
 use Rattle.law.specs.declared.Claim.{Claim}
-use Rattle.law.specs.Lists.{All, Pairs, Cross, all-say, all-both, all-there, all-less, pairs-less, all-more, pairs-more, pairs-around, all-grown, pairs-grown}
+use Rattle.law.specs.Base.{All, Pairs, Cross}
+use Rattle.law.specs.Lists.{all-say, all-both, all-there, all-less, pairs-less, all-more, pairs-more, pairs-around, all-grown, pairs-grown}
 use Rattle.law.specs.Granting.{putTold}
 
 -- Two claims have two tickets.

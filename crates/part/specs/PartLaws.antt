@@ -11,7 +11,8 @@ use lib.Seq.{getD-append-add, take-append-seam}
 use Rattle.num.specs.Word.{Bytes}
 use Rattle.rules.specs.Rows.{Row, noClaim}
 use Rattle.law.specs.declared.Claim.{Claim}
-use Rattle.law.specs.Lists.{All, all-at, and-left, and-right}
+use Rattle.law.specs.Base.{All}
+use Rattle.law.specs.Lists.{all-at, and-left, and-right}
 use Rattle.law.specs.Types.{a0, a1, a2, places, Disk as LawDisk}
 use Rattle.law.specs.Sound.{Sound, sound}
 use Rattle.law.specs.SoundTest.{says-sound}

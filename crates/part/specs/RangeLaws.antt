@@ -10,7 +10,8 @@ use mir.Syntax.{w32}
 use Rattle.num.specs.Metric.{size}
 use Rattle.num.specs.Fits.{size-fits}
 use Rattle.law.specs.declared.Claim.{Claim}
-use Rattle.law.specs.Lists.{All, all-left, all-right}
+use Rattle.law.specs.Base.{All}
+use Rattle.law.specs.Lists.{all-left, all-right}
 use Rattle.law.specs.Types.{mostError, Attribute, Kind, sets, adds, reads, attr, Disk as LawDisk}
 use Rattle.law.specs.Entries.{kindOf}
 use Rattle.law.specs.Sound.{Bare, BareBy, ReadingBy, Formed, Passes, Sound}

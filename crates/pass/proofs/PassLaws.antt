@@ -12,10 +12,10 @@ use lib.Seq.{take-take}
 use Rattle.num.specs.Runs.{splice}
 use Rattle.law.specs.declared.Attr.{Attr}
 use Rattle.law.specs.declared.Claim.{Claim}
-use Rattle.law.specs.Base.{sumOf}
+use Rattle.law.specs.Base.{sumOf, All}
 use Rattle.law.specs.Types.{mostError, Attribute, Figures, attr, Core, Item as LawItem, Disk as LawDisk}
 use Rattle.law.specs.Entries.{kindOf}
-use Rattle.law.specs.Lists.{All, all-say, all-right}
+use Rattle.law.specs.Lists.{all-say, all-right}
 use Rattle.law.specs.Fields.{ValueFits}
 use Rattle.law.specs.Granting.{withAmount, noteBy, total, granted, raised, asGranted, grant, grantItem}
 use Rattle.law.specs.Calls.{Passing, turn, passOver, pass}

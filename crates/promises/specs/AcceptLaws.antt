@@ -10,7 +10,7 @@ use lib.Dec.{leb, eqb}
 use lib.ListN.{length}
 use Rattle.num.specs.Opened.{openAt}
 use Rattle.law.specs.declared.Claim.{Claim}
-use Rattle.law.specs.Lists.{All}
+use Rattle.law.specs.Base.{All}
 use Rattle.law.specs.Types.{places, Core, Disk as LawDisk, Asked, Outcome, accepted}
 use Rattle.law.specs.Granting.{preconditions, lockStep, bars, granted, grantItem}
 use Rattle.law.specs.Calls.{Rule, unless, item, opened as openedDisk, openRefusals, openDisk, at, asked, grantedAtOnce, refusals, decidedBy, decided, claim, releaseRefusals, withEnd, letGo, release}

@@ -9,7 +9,8 @@ use lib.Dec.{eqb}
 use Rattle.num.specs.Word.{wordAt}
 use Rattle.num.specs.Opened.{openAt}
 use Rattle.law.specs.declared.Claim.{Claim}
-use Rattle.law.specs.Lists.{All, all-say, all-append, all-left, all-right, all-there, all-less, all-grown}
+use Rattle.law.specs.Base.{All}
+use Rattle.law.specs.Lists.{all-say, all-append, all-left, all-right, all-there, all-less, all-grown}
 use Rattle.law.specs.Types.{Core, Disk as LawDisk, claimOf}
 use Rattle.law.specs.Granting.{grant, grantItem, raised, asGranted}
 use Rattle.law.specs.Calls.{without, queue, opened, asked, at, finish, letGo, withEnd}

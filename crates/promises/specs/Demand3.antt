@@ -12,15 +12,16 @@ use Rattle.num.specs.Signed.{signedAt}
 use Rattle.num.specs.Metric.{dist}
 use Rattle.num.specs.Opened.{openAt}
 use Rattle.law.specs.declared.Claim.{Claim}
-use Rattle.law.specs.Lists.{All, Pairs, all-say}
+use Rattle.law.specs.Base.{All, Pairs}
+use Rattle.law.specs.Lists.{all-say}
 use Rattle.law.specs.Types.{reads, Disk as LawDisk, Item, accepted}
 use Rattle.law.specs.Entries.{kindAt, kindOf}
 use Rattle.law.specs.Readings.{present, carried}
 use Rattle.law.specs.Calls.{withGrant}
 use Rattle.law.specs.Sound.{claimsOn}
-use Rattle.law.specs.History.{claims, answered}
-use Rattle.law.specs.GrantedAtOnce.{Reading, Free, readingItem, granted-at-once as law-granted-at-once}
-use Rattle.law.specs.Invariant.{Once}
+use Rattle.law.specs.History.{claims, answered, Once}
+use Rattle.law.specs.Conditions.{Reading, Free, readingItem}
+use Rattle.law.specs.GrantedAtOnce.{granted-at-once as law-granted-at-once}
 use Rattle.law.specs.ReaderBound.{Bounded, reader-bound, granted-once as law-granted-once}
 use Rattle.law.specs.DiskType.{diskTable}
 use Rattle.answer.specs.declared.Answer.the-variants as A

@@ -10,7 +10,8 @@ use lib.ListN.{length, length-replicate}
 use Rattle.num.specs.Word.{Bytes}
 use Rattle.num.specs.Opened.{openAt}
 use Rattle.num.specs.OpenedLaws.{open-none}
-use Rattle.law.specs.Lists.{All, all-append, getD-filled}
+use Rattle.law.specs.Base.{All}
+use Rattle.law.specs.Lists.{all-append, getD-filled}
 use Rattle.law.specs.Types.{mostError, Disk as LawDisk, Item, accepted}
 use Rattle.law.specs.Calls.{opened}
 use Rattle.law.specs.History.{Call, History as LawHistory, begun as lawBegun, after as lawAfter, answered, lived as lawLived}

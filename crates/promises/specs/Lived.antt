@@ -4,7 +4,7 @@ use mathlib.Core.Bool.{true}
 use mathlib.Core.List.{List}
 use mathlib.Core.Path.{_≡_}
 use Rattle.num.specs.Opened.{openAt}
-use Rattle.law.specs.Lists.{All}
+use Rattle.law.specs.Base.{All}
 use Rattle.desk.specs.Board.{disks, partOf}
 use Rattle.promises.specs.Histories.{BoardCall, BytesIn, begun, lived}
 use Rattle.promises.specs.Sentences.{SoundPart}

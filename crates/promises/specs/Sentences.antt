@@ -9,7 +9,7 @@ use lib.Dec.{eqb}
 use lib.ListN.{length}
 use Rattle.num.specs.Opened.{openAt}
 use Rattle.law.specs.declared.Claim.{Claim}
-use Rattle.law.specs.Lists.{All}
+use Rattle.law.specs.Base.{All}
 use Rattle.law.specs.Types.{mostFlag, Core, Disk as LawDisk}
 use Rattle.law.specs.Granting.{preconditions, lockStep, bars}
 use Rattle.law.specs.Calls.{at, asked}

@@ -6,7 +6,8 @@ use mathlib.Core.Path.{_≡_, refl, ap, subst, _∙_}
 use native.Mathlib.Omega.{arith}
 use lib.Dec.{eqb}
 use Rattle.num.specs.Opened.{openAt}
-use Rattle.law.specs.Lists.{All, Pairs, all-say, all-append, pairs-join}
+use Rattle.law.specs.Base.{All, Pairs}
+use Rattle.law.specs.Lists.{all-say, all-append, pairs-join}
 use Rattle.law.specs.Types.{Disk as LawDisk}
 use Rattle.law.specs.Granting.{grantItem}
 use Rattle.law.specs.Events.{After, claim-after, release-after}

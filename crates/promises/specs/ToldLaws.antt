@@ -4,7 +4,8 @@ use mathlib.Core.List.{List, [], _∷_, _++_, append-assoc}
 use mathlib.Core.Logic.{inl}
 use mathlib.Core.Path.{_≡_, refl, subst}
 use Rattle.law.specs.declared.Claim.{Claim}
-use Rattle.law.specs.Lists.{All, all-say, all-true, all-grown}
+use Rattle.law.specs.Base.{All}
+use Rattle.law.specs.Lists.{all-say, all-true, all-grown}
 use Rattle.law.specs.Types.{Core, Item}
 use Rattle.law.specs.Granting.{grant, grantItem, raised, asGranted}
 use Rattle.law.specs.Calls.{item, waitItem, without, opened, asked, at, finish}

@@ -11,8 +11,8 @@ use lib.ListN.{length, take}
 use borrow.Author.Tests.{ltb-true, ltb-false, leb-true, leb-false, lt-ltb, le-ltb, le-leb, lt-leb, eq-eqb, ne-eqb, eqb-true, eqb-false}
 use Rattle.num.specs.Metric.{size}
 use Rattle.law.specs.declared.Claim.{Claim}
-use Rattle.law.specs.Base.{allTrue}
-use Rattle.law.specs.Lists.{All, never-true}
+use Rattle.law.specs.Base.{allTrue, All}
+use Rattle.law.specs.Lists.{never-true}
 use Rattle.law.specs.Types.{mostValue, mostError, mostState, places, lastTicket, Kind, sets, adds, reads, Figures, Disk as LawDisk, Asked as LawAsked, Outcome, refused, accepted}
 use Rattle.law.specs.Entries.{kindAt, kindOf}
 use Rattle.law.specs.Granting.{total, grantItem}

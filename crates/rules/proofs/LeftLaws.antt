@@ -13,8 +13,8 @@ use lib.ListN.{length, getD}
 use lib.Pow.{pow-add, pow-pos}
 use Rattle.num.specs.Bits.{hasBit, bit-zero, bit-either, bit-both}
 use Rattle.law.specs.declared.Claim.{Claim}
-use Rattle.law.specs.Base.{sumOf}
-use Rattle.law.specs.Lists.{All, all-at, sum-append, sum-map}
+use Rattle.law.specs.Base.{sumOf, All}
+use Rattle.law.specs.Lists.{all-at, sum-append, sum-map}
 use Rattle.rules.specs.Rows.{noClaim, removeAt}
 use Rattle.rules.specs.Masks.{methodBit, methodsFrom, methodsOf, twiceFrom, twiceOf, shares, withoutOf}
 use Rattle.rules.specs.Pairs.{addOf}

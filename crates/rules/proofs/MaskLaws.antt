@@ -12,10 +12,10 @@ use lib.Dec.{ltb, eqb}
 use Rattle.num.specs.Bits.{hasBit, bit-zero, bit-set, bit-set-other, bit-either, bit-both, apart-bits, bits-none, or-apart}
 use Rattle.law.specs.declared.Claim.{Claim}
 use Rattle.law.specs.declared.Entry.{Entry}
-use Rattle.law.specs.Base.{everyOf}
+use Rattle.law.specs.Base.{everyOf, All}
 use Rattle.law.specs.Types.{Kind}
 use Rattle.law.specs.Entries.{isAlways, isNever, entryBy, entry, kindAt, kindOf}
-use Rattle.law.specs.Lists.{All, all-say, never-true}
+use Rattle.law.specs.Lists.{all-say, never-true}
 use Rattle.law.specs.Says.{says-every, says-self}
 use Rattle.law.specs.DiskType.{diskTable}
 use Rattle.rules.specs.Masks.{methodBit, methodsFrom, methodsOf, rowsTo, otherMask, neverMask}

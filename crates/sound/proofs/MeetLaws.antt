@@ -8,8 +8,8 @@ use lib.Bits.{bitAnd, bitOr, or-zero-l}
 use lib.Dec.{eqb}
 use Rattle.num.specs.Bits.{hasBit, bit-zero, bit-set-other, bit-either, bit-both, apart-bits}
 use Rattle.law.specs.declared.Claim.{Claim}
-use Rattle.law.specs.Base.{everyPair}
-use Rattle.law.specs.Lists.{All, Pairs, all-both, never-true}
+use Rattle.law.specs.Base.{everyPair, All, Pairs}
+use Rattle.law.specs.Lists.{all-both, never-true}
 use Rattle.law.specs.DiskType.{diskTable}
 use Rattle.rules.specs.Masks.{methodBit, methodsFrom, methodsOf, rowsTo, neverMask, twiceFrom, twiceOf, shares}
 use Rattle.rules.proofs.MethodLaws.{method-cases, method-past}

@@ -10,8 +10,8 @@ use lib.Dec.{leb, ltb}
 use lib.ListN.{length}
 use Rattle.num.specs.Metric.{size}
 use Rattle.law.specs.declared.Claim.{Claim}
-use Rattle.law.specs.Base.{allTrue, everyOf}
-use Rattle.law.specs.Lists.{All, never-true, all-say, all-both, all-true, all-append, all-left, all-right, and-left, and-right, Passed, passed, all-passed, every-tests, sum-zero}
+use Rattle.law.specs.Base.{allTrue, everyOf, All}
+use Rattle.law.specs.Lists.{never-true, all-say, all-both, all-true, all-append, all-left, all-right, and-left, and-right, Passed, passed, all-passed, every-tests, sum-zero}
 use Rattle.law.specs.Types.{mostValue, mostPriority, mostFlag, places, lastTicket, Attribute, a0, a1, a2, Kind, sets, adds, reads, Figures, attr, Disk}
 use Rattle.law.specs.Entries.{kindOf}
 use Rattle.law.specs.Granting.{addsTo, addsOn}

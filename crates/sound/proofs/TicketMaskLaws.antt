@@ -8,8 +8,8 @@ use lib.Bits.{bitAnd, bitOr}
 use lib.Dec.{eqb}
 use Rattle.num.specs.Bits.{hasBit, bit-set, bit-set-other, or-none}
 use Rattle.law.specs.declared.Claim.{Claim}
-use Rattle.law.specs.Base.{everyPair}
-use Rattle.law.specs.Lists.{All, Pairs, all-say, never-true, and-left, and-right}
+use Rattle.law.specs.Base.{everyPair, All, Pairs}
+use Rattle.law.specs.Lists.{all-say, never-true, and-left, and-right}
 use Rattle.rules.proofs.LeftLaws.{shares-bit}
 use Rattle.sound.specs.Tests.{apart}
 use Rattle.sound.specs.Seen.{bitOf, free}

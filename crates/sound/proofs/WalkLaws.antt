@@ -11,9 +11,9 @@ use lib.ListN.{length, drop, getD, drop-of-length-le}
 use lib.Seq.{drop-cons}
 use native.Mathlib.Numerals.{add-one}
 use Rattle.law.specs.declared.Claim.{Claim}
-use Rattle.law.specs.Base.{everyOf, everyPair}
+use Rattle.law.specs.Base.{everyOf, everyPair, All, Pairs}
 use Rattle.law.specs.Calls.{before}
-use Rattle.law.specs.Lists.{All, Pairs, all-say, never-true, and-left, and-right}
+use Rattle.law.specs.Lists.{all-say, never-true, and-left, and-right}
 use Rattle.law.specs.Says.{Says, says-every, says-pairs, says-self}
 use Rattle.rules.specs.Rows.{noClaim}
 

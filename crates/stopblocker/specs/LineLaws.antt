@@ -18,7 +18,8 @@ use Rattle.num.specs.Signed.{signedOf, wordOf, signedAt, signed-word, word-fits
 use Rattle.num.specs.Metric.{size}
 use Rattle.num.specs.Runs.{le4, flat, splice}
 use Rattle.num.specs.RunLaws.{length-splice, splice-splice}
-use Rattle.law.specs.Lists.{All, never-true, getD-filled}
+use Rattle.law.specs.Base.{All}
+use Rattle.law.specs.Lists.{never-true, getD-filled}
 use Rattle.law.specs.Says.{by-test}
 use Rattle.answer.specs.declared.Answer.{Answer}
 use Rattle.answer.specs.Answers.{codeOf, ticketOf, toldOf, amountOf, itemBytes, itemsBytes, answerBytes}

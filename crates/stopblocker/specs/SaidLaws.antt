@@ -12,7 +12,8 @@ use Rattle.num.specs.Word.{Bytes}
 use Rattle.num.specs.WordLaws.{word-at-fits}
 use Rattle.num.specs.Fits.{size-fits}
 use Rattle.law.specs.declared.Claim.{Claim}
-use Rattle.law.specs.Lists.{All, all-say, all-append, all-there, all-map, length-more}
+use Rattle.law.specs.Base.{All}
+use Rattle.law.specs.Lists.{all-say, all-append, all-there, all-map, length-more}
 use Rattle.law.specs.Types.{Attribute, Kind, attr, Core, Disk as LawDisk, Item, Outcome, refused, accepted}
 use Rattle.law.specs.Fields.{ValueFits}
 use Rattle.law.specs.Sound.{LimitFits, Sound}

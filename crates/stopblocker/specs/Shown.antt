@@ -6,7 +6,7 @@ use mathlib.Core.Path.{_≡_, ap, _∙_}
 use borrow.Author.Tests.{eq-eqb}
 use lib.ListN.{length}
 use Rattle.num.specs.Word.{Bytes}
-use Rattle.law.specs.Lists.{All}
+use Rattle.law.specs.Base.{All}
 use Rattle.desk.specs.Board.{boardBytes}
 use Rattle.desk.specs.Step.{Said, ownOf, grantsOf, effectOf, Stepped, written, stepOf}
 use Rattle.stopblocker.specs.Lines.{linesOf, answerLine, plusLines}
