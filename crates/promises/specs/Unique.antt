@@ -11,7 +11,7 @@ use Rattle.rules.specs.declared.disk.Asked.{Asked}
 use Rattle.rules.specs.Answers.{askedOf}
 use Rattle.rules.specs.Disks.{DiskIs}
 use Rattle.part.specs.Layout.{slots, inSlots, decode}
-use Rattle.slots.specs.Slots.{Kept}
+use Rattle.slots.specs.Slots.{Canonical}
 use Rattle.sound.specs.Seen.{SeenIs, Nothing}
 use Rattle.judge.specs.Decisions.{DecidedIs}
 use Rattle.answer.specs.declared.Answer.{Answer}
@@ -84,11 +84,11 @@ seen-unique d {ok} {yes} {b} {n} {m} {k} {l} {t} {u} e f g h i j =
 -- ---- bytes that are said through what they hold
 
 -- Eight slots through their claims.
-pub slots-unique : {r s : List ℕ} {cs : List Claim} → Kept r → slots 8 r ≡ cs → Kept s → slots 8 s ≡ cs → r ≡ s
+pub slots-unique : {r s : List ℕ} {cs : List Claim} → Canonical r → slots 8 r ≡ cs → Canonical s → slots 8 s ≡ cs → r ≡ s
 slots-unique k p l q = sym k ∙ ap inSlots (unique p q) ∙ l
 
 -- Eight slots through a list of claims and its length.
-pub row-unique : {r s : List ℕ} {n : ℕ} {ws : List Claim} → Kept r → RowIs (slots 8 r) n ws → Kept s → RowIs (slots 8 s) n ws → r ≡ s
+pub row-unique : {r s : List ℕ} {n : ℕ} {ws : List Claim} → Canonical r → RowIs (slots 8 r) n ws → Canonical s → RowIs (slots 8 s) n ws → r ≡ s
 row-unique k p l q = slots-unique k (row-padded (p .row) (p .list) ∙ sym (row-padded (q .row) (q .list))) l refl
 
 -- A part through the disk of the law for which its disk stands.
