@@ -1,5 +1,5 @@
--- Laws of the three attributes: a fact of one attribute and of the others is a fact of all, and what being in range
--- says of values, sums and told sums. Each is shown once here, for sets, adds and readings alike.
+-- Laws of the three attributes: a fact of one attribute and of the others is a fact of all; and what follows from values, sums
+-- and told sums being in range. Each is shown once here, for sets, adds and readings alike.
 use Prim.Native.Nat.{ℕ, _+_, _≤_}
 use mathlib.Core.Bool.{Bool, true, false, cond, not, _&&_}
 use mathlib.Core.Path.{_≡_, refl}
@@ -16,7 +16,7 @@ use Rattle.law.specs.Readings.{present}
 
 -- ---- one attribute and the others
 
--- What holds of b as it is put, and of each attribute as it was, holds of all.
+-- If P holds of b with its new content x, and of every attribute with its old content, it holds of all after the replacement.
 pub put-all : (P : Attribute → Attr → Type 0) (f : Figures) (b : Attribute) (x : Attr) → P b x →
     ((a : Attribute) → P a (attr f a)) → (a : Attribute) → P a (attr (putAttr f b x) a)
 put-all P f a0 x new others a0 = new
@@ -29,7 +29,7 @@ put-all P f a2 x new others a0 = others a0
 put-all P f a2 x new others a1 = others a1
 put-all P f a2 x new others a2 = new
 
--- What holds of b as the same one, and of each attribute as another, holds of all.
+-- Case distinction on `same a b`: P of b with true, and of every attribute with false.
 pub same-all : (P : Attribute → Bool → Type 0) (b : Attribute) → P b true → ((a : Attribute) → P a false) →
     (a : Attribute) → P a (same a b)
 same-all P a0 this others a0 = this
@@ -60,7 +60,7 @@ same-turned a2 a2 = refl
 
 -- ---- what a grant notes
 
--- A field that is not the amount stays as it was.
+-- Noting a total changes no field but the amount.
 pub note-same : {X : Type 0} (field : Attr → X) → ((x : Attr) (n : ℕ) → field (withAmount x n) ≡ field x) →
     (f : Figures) (k : Kind) (n : ℕ) (a : Attribute) → field (attr (noteBy f k n) a) ≡ field (attr f a)
 note-same field kept f (sets b) n = put-all (λ a x. field x ≡ field (attr f a)) f b (withAmount (attr f b) n) (kept (attr f b) n) (λ a. refl)
@@ -69,7 +69,7 @@ note-same field kept f (reads m) n = λ a. refl
 
 -- ---- ranges
 
--- Less is in range too, and so is whatever is within 1,000,000,000.
+-- A smaller sum is in range too; and every sum up to 1,000,000,000 is.
 pub sum-less : (a : Attribute) (m n : ℕ) → m ≤ n → SumFits a n → SumFits a m
 sum-less a0 m n h k = omega arith
 sum-less a1 m n h k = omega arith
@@ -80,7 +80,7 @@ sum-most a0 n h = h
 sum-most a1 n h = h
 sum-most a2 n h = tt
 
--- A value in range is a sum in range, where there are no adds; and a metric attribute's sum in range is a value in range.
+-- A value in range plus no adds is a sum in range; and if a metric attribute's sum is in range, so is its value.
 pub value-sum : (a : Attribute) (z : ℤ) (n : ℕ) → n ≡ 0 → ValueFits a z → SumFits a (size z + n)
 value-sum a0 z n e h = omega arith
 value-sum a1 z n e h = omega arith
@@ -99,7 +99,7 @@ part-size : (b : Bool) (z : ℤ) (n : ℕ) → size z ≤ n → size (cond b z (
 part-size true z n h = h
 part-size false z n h = omega arith
 
--- A proper reading is told used, promised, both or the state: within ±2,000,000,000.
+-- A proper reading is told used, promised, their sum, the state, or nothing: within ±2,000,000,000.
 pub told-range : (f : Figures) (m : ℕ) → properKind (reads m) ≡ true → ((a : Attribute) → ValueFits a (attr f a .value)) →
     size (present f m) ≤ mostError
 told-range f m proper h =

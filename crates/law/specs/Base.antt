@@ -1,4 +1,4 @@
--- The few words that the rules and statements are written with: tests, sums and facts over a list.
+-- The vocabulary of the rules and statements: tests, sums and facts over a list.
 use Prim.Native.Nat.{ℕ, _+_}
 use mathlib.Core.Bool.{Bool, true, false, _&&_, _||_}
 use mathlib.Core.List.{List, [], _∷_}
@@ -38,6 +38,6 @@ abbrev pub Pairs : {A : Type 0} → (A → A → Type 0) → List A → Type 0
 Pairs R [] = Unit {0}
 Pairs R (x ∷ xs) = All (R x) xs × Pairs R xs
 
--- R holds of every element of the one list with every element of the other.
+-- R x y holds for every x of the first list and every y of the second.
 abbrev pub Cross : {A : Type 0} → (A → A → Type 0) → List A → List A → Type 0
 Cross R xs ys = All (λ x. All (R x) ys) xs

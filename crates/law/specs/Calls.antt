@@ -25,7 +25,7 @@ unless (r ∷ rs) good = cond (r .when) (refused (r .number)) (unless rs good)
 
 -- ---- ranges
 
--- A state is a code 0 to 255.
+-- A state is a code from 0 to 255.
 abbrev pub isCode : ℤ → Bool
 isCode (pos n) = leb n mostState
 isCode (negsuc n) = false
@@ -36,7 +36,7 @@ valueFits a0 z = leb (size z) mostValue
 valueFits a1 z = leb (size z) mostValue
 valueFits a2 z = isCode z
 
--- The fields of a claim at second now. A write: its value in range, no fresh flag, not measured after now, its own error in
+-- What refusal 17 tests at second now. A write: its value in range, no fresh flag, not measured after now, its own error in
 -- range. A reading: value and second of measuring 0, its stated limit in range.
 abbrev pub fieldTests : ℕ → Kind → Claim → List Bool
 fieldTests now (sets a) c = valueFits a (c .value) ∷ eqb (c .flag) 0 ∷ leb (c .measured) now ∷ leb (c .error) mostError ∷ []
@@ -62,7 +62,7 @@ landBy f (reads m) w = f
 abbrev pub hasTicket : ℕ → Claim → Bool
 hasTicket n w = eqb (w .ticket) n
 
--- The list without the claim of ticket n.
+-- The list without the claim with ticket n.
 abbrev pub without : ℕ → List Claim → List Claim
 without n [] = []
 without n (w ∷ ws) = cond (hasTicket n w) ws (w ∷ without n ws)
@@ -72,14 +72,14 @@ without n (w ∷ ws) = cond (hasTicket n w) ws (w ∷ without n ws)
 abbrev pub before : Claim → Claim → Bool
 before x y = ltb (y .priority) (x .priority) || (cond (eqb (x .priority) (y .priority)) (ltb (x .ticket) (y .ticket)) false)
 
--- The waiting claims with c at its place in that order.
+-- The waiting claims with c inserted in that order.
 abbrev pub queue : Claim → List Claim → List Claim
 queue c [] = c ∷ []
 queue c (w ∷ ws) = cond (before w c) (w ∷ queue c ws) (c ∷ w ∷ ws)
 
 -- ---- the pass
 
--- The pass so far: the state, those looked at that still wait, the answers of its grants in order.
+-- The pass so far: the state, the claims tried that still wait, and the answers of its grants in order.
 pub record Passing : Type 0 where
   pub core : Core
   pub ahead : List Claim
@@ -123,7 +123,7 @@ setClock now s = record { clock = now; figures = s .figures; active = s .active 
 abbrev pub asked : Disk → Asked → Claim
 asked d q = claimOf q (d .next)
 
--- The disk at the second of a call.
+-- What a decision looks at, with the clock set to the second of the call.
 abbrev pub at : Disk → ℕ → Core
 at d now = setClock now (d .core)
 
@@ -133,7 +133,7 @@ module _ (t : Table) where
   abbrev pub grantedAtOnce : Disk → Asked → Bool
   grantedAtOnce d q = granted t (at d (q .now)) (d .waiting) (asked d q)
 
-  -- What every claim on a disk passes: 16 to 18, at second now.
+  -- Refusals 16 to 18 of claim c at second now. Every claim on a sound disk passes them too.
   abbrev pub claimRefusals : Figures → ℕ → Claim → List Rule
   claimRefusals f now c =
       record { number = 16; when = leb (length (t .kinds)) (c .method) }
@@ -150,15 +150,15 @@ module _ (t : Table) where
       ∷ record { number = 20; when = cond (grantedAtOnce d q) false (leb places (length (d .waiting))) }
       ∷ [])
 
-  -- The disk with the claim granted, and the disk with the claim waiting: either takes the next ticket. Where it waits, no
-  -- amount changes.
+  -- The disk after the claim is granted, and after it is put among the waiting. Either way it
+  -- takes the next ticket; waiting changes no amount.
   abbrev pub withGrant : Disk → Asked → Disk
   withGrant d q = record { core = grant t (at d (q .now)) (asked d q); waiting = d .waiting; next = d .next + 1 }
 
   abbrev pub withWait : Disk → Asked → Disk
   withWait d q = record { core = at d (q .now); waiting = queue (asked d q) (d .waiting); next = d .next + 1 }
 
-  -- The answer of a claim that waits: only its ticket.
+  -- The answer item of a claim that waits: only its ticket.
   abbrev pub waitItem : Disk → Asked → Item
   waitItem d q = item 1 (d .next)
 
@@ -176,16 +176,16 @@ module _ (t : Table) where
 
   -- ---- release
 
-  -- The figures after the end of the active claim of ticket n.
+  -- The figures after the active claim with ticket n ends.
   abbrev pub landed : Figures → ℕ → List Claim → Figures
   landed f n [] = f
   landed f n (w ∷ ws) = cond (hasTicket n w) (landBy f (kindOf t w) w) (landed f n ws)
 
-  -- The disk after the end of the active claim of ticket n, if there is one.
+  -- The state after the active claim with ticket n ends, if there is one.
   unfoldable pub finish : Core → ℕ → Core
   finish s n = record { clock = s .clock; figures = landed (s .figures) n (s .active); active = without n (s .active) }
 
-  -- One waiting claim is tried on the state so far, barred only by those ahead that still wait.
+  -- One waiting claim is tried on the state so far. Only the claims ahead that still wait can bar it.
   unfoldable pub turn : Passing → Claim → Passing
   turn p c =
       cond (granted t (p .core) (p .ahead) c)
@@ -200,7 +200,7 @@ module _ (t : Table) where
   abbrev pub pass : Core → List Claim → Passing
   pass s waiting = passOver (record { core = s; ahead = []; items = [] }) waiting
 
-  -- The claim of ticket n ends, active or waiting; then the pass.
+  -- The claim with ticket n ends, active or waiting; then the pass.
   abbrev pub letGo : Disk → ℕ → ℕ → Passing
   letGo d now n = pass (finish (at d now) n) (without n (d .waiting))
 

@@ -1,5 +1,5 @@
--- Laws of the claims on a disk: each passes 16 to 18 and has a ticket of its own. Grants and ends keep this: limits never
--- change, the clock only grows, and 16 to 18 ask nothing of a told sum or an amount.
+-- Laws of the claims on a disk: each passes 16 to 18 and has its own ticket. Grants and ends keep this, because limits never
+-- change, the clock only grows, and 16 to 18 do not look at told sums or amounts.
 use Prim.Native.Nat.{ℕ, _+_, _≤_}
 use mathlib.Core.List.{List, [], _∷_, _++_, map}
 use mathlib.Core.Path.{_≡_, refl}
@@ -47,13 +47,13 @@ fields-second now (adds a) c h = h .2
 fields-second now (reads m) c h = omega arith
 
 module _ (t : Table) where
-  -- A claim, active or waiting.
+  -- What a claim meets, active or waiting.
   pub record ClaimFits (f : Figures) (now : ℕ) (c : Claim) : Type 0 where
     pub formed : Formed c
     pub first : 1 ≤ c .ticket
     pub passes : Passes t f now c
 
-  -- The active claims vs and the waiting claims ws.
+  -- What the active claims vs and the waiting claims ws meet together.
   pub record ClaimsFit (f : Figures) (now next : ℕ) (vs ws : List Claim) : Type 0 where
     pub active : All (ClaimFits f now) vs
     pub waiting : All (ClaimFits f now) ws
@@ -75,7 +75,7 @@ module _ (t : Table) where
             };
       }
 
-  -- Other values, other amounts, a later clock.
+  -- With other values and amounts, and a later clock.
   pub claims-kept : {f g : Figures} {now later next : ℕ} {vs ws : List Claim} → SameLimits f g → now ≤ later →
       ClaimsFit f now next vs ws → ClaimsFit g later next vs ws
   claims-kept {f} {g} {now} {later} {next} {vs} {ws} e l h =
@@ -90,7 +90,7 @@ module _ (t : Table) where
       kept : (us : List Claim) → All (ClaimFits f now) us → All (ClaimFits g later) us
       kept us = all-say (ClaimFits f now) _ (λ c. claim-kept e l c (c .told) (c .amount)) us
 
-  -- An active claim fewer.
+  -- Without one active claim.
   pub claims-end : {f : Figures} {now next : ℕ} (xs : List Claim) (w : Claim) (ys : List Claim) {ws : List Claim} →
       ClaimsFit f now next (xs ++ (w ∷ ys)) ws → ClaimsFit f now next (xs ++ ys) ws
   claims-end xs w ys h =
@@ -102,7 +102,7 @@ module _ (t : Table) where
         nextLast = h .nextLast;
       }
 
-  -- A waiting claim fewer.
+  -- Without one waiting claim.
   pub claims-leave : {f : Figures} {now next : ℕ} {vs : List Claim} (xs : List Claim) (w : Claim) (ys : List Claim) →
       ClaimsFit f now next vs (xs ++ (w ∷ ys)) → ClaimsFit f now next vs (xs ++ ys)
   claims-leave xs w ys h =
@@ -114,7 +114,7 @@ module _ (t : Table) where
         nextLast = h .nextLast;
       }
 
-  -- A new claim, of the next ticket.
+  -- With a new claim that takes the next ticket.
   pub claims-new : {f : Figures} {now next : ℕ} {vs : List Claim} (xs ys : List Claim) (c : Claim) → c .ticket ≡ next →
       next ≤ lastTicket → Formed c → Passes t f now c → ClaimsFit f now next vs (xs ++ ys) →
       ClaimsFit f now (next + 1) vs (xs ++ (c ∷ ys))
@@ -127,7 +127,7 @@ module _ (t : Table) where
         nextLast = omega arith;
       }
 
-  -- A waiting claim becomes active, and others' amounts grow.
+  -- A waiting claim becomes active, and other claims' amounts grow.
   pub claims-grant : {f : Figures} {now next : ℕ} {vs : List Claim} (xs : List Claim) (c : Claim) (ys : List Claim)
       (told : ℤ) (amount : ℕ) (growth : Claim → ℕ) → ClaimsFit f now next vs (xs ++ (c ∷ ys)) →
       ClaimsFit f now next (map (λ w. putTold w (w .told) (w .amount + growth w)) vs ++ (putTold c told amount ∷ [])) (xs ++ ys)

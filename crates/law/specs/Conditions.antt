@@ -9,14 +9,14 @@ use Rattle.law.specs.Types.{mostError, places, lastTicket, Attribute, wi
 use Rattle.law.specs.Entries.{kindAt, kindOf}
 use Rattle.law.specs.Readings.{present, carried}
 
--- A method of this kind writes what a reading of mask m reads.
+-- A method of this kind writes an attribute that is in mask m.
 abbrev pub writesWhat : ℕ → Kind → Bool
 writesWhat m (sets a) = within m a
 writesWhat m (adds a) = within m a
 writesWhat m (reads n) = false
 
 module _ (t : Table) where
-  -- A well-formed reading of mask m: a reading's method, no value, no second of measuring, a limit in range.
+  -- A well-formed claim on a method that reads mask m: value and second of measuring are 0, the stated limit is in range.
   pub record Reading (q : Asked) (m : ℕ) : Type 0 where
     pub method : q .method < length (t .kinds)
     pub kind : kindAt t (q .method) ≡ reads m

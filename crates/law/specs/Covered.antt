@@ -1,5 +1,5 @@
--- Laws of an active reading: what it was told and the present sum differ by no more than its amount less the error carried
--- at its grant. Each attribute has a share of that amount (Near); a grant that would pass the shares raises the amount.
+-- Laws of an active reading: its told sum and the present sum differ by at most its amount less the error carried at its grant.
+-- Each attribute has a share of that amount (Near); a grant that widens the shares raises the amount by at least as much.
 use Prim.Native.Nat.{ℕ, _+_, _≤_}
 use mathlib.Core.Bool.{Bool, true, false, cond}
 use mathlib.Core.List.{List, [], _∷_}
@@ -23,7 +23,7 @@ use Rattle.law.specs.Near.{gapOn, Near, near-grant, shareOf, near-start,
 use Rattle.law.specs.Entries.{entryBy, isNever, kindOf, entry}
 use Rattle.law.specs.Readings.{sumRead, toldRead, present, carried}
 
--- ---- a reading and a write of what it reads: their entry is G or N, so the gap is paid or there is no grant
+-- ---- a reading and a write of an attribute it reads: their entry is G or N, so the gap is counted or nothing is granted
 
 covers-grow : (w mt : Bool) (k : Kind) (own g : ℕ) → raisesBy G k ≡ true → isNever (cond w (cond mt G N) A) ≡ false →
     cond w g 0 ≤ cond (raisesBy (cond w (cond mt G N) A) k) (own + g) 0
@@ -37,7 +37,7 @@ covers-cost true true m d g e = omega arith
 covers-cost true false m d g e = never-true (g ≤ 0) (sym e)
 covers-cost false mt m d g e = omega arith
 
--- A write that is granted raises the reading by at least what it costs the shares.
+-- A granted write raises the reading's amount by at least what it adds to the shares.
 pub grow-covers : (f : Figures) (m : ℕ) (k : Kind) (y : ℤ) (own : ℕ) → isNever (entryBy (reads m) k) ≡ false →
     sumRead m (λ a. gapOn f a k y) ≤ cond (raisesBy (entryBy (reads m) k) k) (own + gapBy f k y) 0
 grow-covers f m (sets b) y own e =
@@ -54,7 +54,7 @@ grow-covers f m (adds b) y own e =
     )
 grow-covers f m (reads n) y own e = omega (arith, sum-none m)
 
--- An active write costs a reading that is granted at least what it costs the shares.
+-- An active write adds to a requested reading's total at least what it adds to the shares.
 pub cost-covers : (f : Figures) (m : ℕ) (k : Kind) (y : ℤ) (d : ℕ) → isNever (entryBy k (reads m)) ≡ false →
     sumRead m (λ a. gapOn f a k y) ≤ costBy (entryBy k (reads m)) (reads m) d (gapBy f k y)
 cost-covers f m (sets b) y d e =
@@ -69,14 +69,14 @@ stays-within true x g l h k = leb-true (x + g) l h
 stays-within false x g l h k = omega arith
 
 module _ (t : Table) where
-  -- The reading r of mask m, granted while the figures carried e, was told z and has these shares.
+  -- The reading r of mask m was granted while the figures carried e, and was told z; its amount covers e and the shares.
   pub record Covered (f : Figures) (ws : List Claim) (m e : ℕ) (r : Claim) (z : Attribute → ℤ) (share : Attribute → ℕ) : Type 0 where
     pub near : (a : Attribute) → Near t a (z a) (share a) (attr f a .value) ws
     pub told-is : r .told ≡ toldRead m z
     pub counted : e + sumRead m share ≤ r .amount
     pub inside : r .amount ≤ r .error
 
-  -- Demand 3 for one reading, without a subtraction.
+  -- Demand 3 for one reading, written without a subtraction.
   pub covered-bound : (f : Figures) (ws : List Claim) (m e : ℕ) (r : Claim) (z : Attribute → ℤ) (share : Attribute → ℕ) →
       Covered f ws m e r z share → dist (r .told) (present f m) + e ≤ r .error
   covered-bound f ws m e r z share h =
@@ -88,7 +88,7 @@ module _ (t : Table) where
             (dist-read m z (λ a. attr f a .value) share (λ a w. omega (arith, h .near a .stands))),
       )
 
-  -- The grant of another claim.
+  -- The grant of another claim c keeps r covered, with wider shares.
   pub covered-grant : (s : Core) (c : Claim) (m e : ℕ) (r : Claim) (z : Attribute → ℤ) (share : Attribute → ℕ) →
       kindOf t r ≡ reads m → isNever (entry t r c) ≡ false → stays t s c r ≡ true → Covered (s .figures) (s .active) m e r z share →
       Covered (grant t s c .figures) (grant t s c .active) m e (raised t s c r) z (λ a. share a + gapOn (s .figures) a (kindOf t c) (c .value))
@@ -117,7 +117,7 @@ module _ (t : Table) where
             stays-within (raisesBy (entry t r c) (kindOf t c)) (r .amount) (c .error + gap t s c) (r .error) stay (h .inside);
       }
 
-  -- The grant of the reading itself.
+  -- The grant of the reading itself: its cost covers its first shares.
   shares-cost : (s : Core) (c : Claim) (m : ℕ) (ws : List Claim) → All (λ w. isNever (entryBy (kindOf t w) (reads m)) ≡ false) ws →
       sumRead m (λ a. shareOf t a (s .figures) ws) ≤ sumOf (λ w. costBy (entryBy (kindOf t w) (reads m)) (reads m) (dist (c .value) (w .value)) (gap t s w)) ws
   unfolding shareOf
@@ -163,7 +163,7 @@ module _ (t : Table) where
         inside = omega (arith, fits, ap (λ (k : Kind). amountBy k (total t s c)) p);
       }
 
-  -- The end of a claim.
+  -- The end of a claim keeps r covered, with the same shares.
   pub covered-end : (f : Figures) (ws : List Claim) (n m e : ℕ) (r : Claim) (z : Attribute → ℤ) (share : Attribute → ℕ) →
       Covered f ws m e r z share → Covered (landed t f n ws) (without n ws) m e r z share
   covered-end f ws n m e r z share h =

@@ -19,7 +19,7 @@ diskValid flag a2 = 3_600
 unfoldable pub diskTable : Table
 diskTable = record { kinds = diskKinds; valid = diskValid }
 
--- The compatibility table. Row: active method; column: requested. (TableLaws: it follows the rule by kinds, and is symmetric.)
+-- The compatibility table. Row: active method; column: requested. TableLaws proves that it is the rule by kinds, and symmetric.
 unfoldable pub diskEntries : List (List Entry)
 diskEntries =
     (D ∷ A ∷ A ∷ A ∷ G ∷ G ∷ A ∷ [])

@@ -1,4 +1,4 @@
--- The compatibility of two methods: an entry A, N, D or G by what the two do. For the disk it is 01's table (TableLaws).
+-- The compatibility of two methods: an entry A, N, D or G, computed from their kinds. For the disk it is 01's table (TableLaws).
 use Prim.Native.Nat.{ℕ}
 use mathlib.Core.Bool.{Bool, true, false, cond}
 use lib.ListN.{getD}
@@ -7,12 +7,12 @@ use Rattle.law.specs.declared.Entry.{Entry}
 use Rattle.law.specs.declared.Entry.the-variants.{A, N, D, G}
 use Rattle.law.specs.Types.{Attribute, metric, same, within, Kind, sets, adds, reads, Table}
 
--- A write of attribute a and a reading of a mask: where it reads a, a gap, or never for the state.
+-- A write of a beside a reading of mask m: G if m has a (N if a is the state), otherwise A.
 abbrev pub entryRead : Attribute → ℕ → Entry
 entryRead a m = cond (within m a) (cond (metric a) G N) A
 
--- Two sets of one metric attribute: distance. An add and a set of one attribute: never. Two adds: always. State against
--- state: never, unless both read (a state has no adds). A reading and a write of what it reads: gap. All others: always.
+-- Two sets of the same metric attribute: D. A set and an add of the same attribute: N. Two adds: A. A reading and a write of a metric
+-- attribute that it reads: G. Two methods on the state: N, unless both read it (no method adds to a state). Everything else: A.
 abbrev pub entryBy : Kind → Kind → Entry
 entryBy (sets a) (sets b) = cond (same a b) (cond (metric a) D N) A
 entryBy (sets a) (adds b) = cond (same a b) N A
@@ -37,13 +37,13 @@ isNever D = false
 isNever G = false
 
 module _ (t : Table) where
-  -- The kind of a method; one that the type lacks reads nothing.
+  -- The kind of method m; an unknown method is a reading of nothing.
   abbrev pub kindAt : ℕ → Kind
   kindAt m = getD (t .kinds) m (reads 0)
 
   abbrev pub kindOf : Claim → Kind
   kindOf c = kindAt (c .method)
 
-  -- The entry of an active claim and a requested one.
+  -- The entry of the active claim w and the requested claim c.
   abbrev pub entry : Claim → Claim → Entry
   entry w c = entryBy (kindOf w) (kindOf c)

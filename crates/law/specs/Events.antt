@@ -1,4 +1,4 @@
--- Laws of calls: what holds after an accepted call, a pass and a history, shown from single grants and ends.
+-- Laws of calls: a fact that single grants and ends keep is kept by a pass, an accepted call and a history.
 use Prim.Native.Nat.{ℕ}
 use mathlib.Core.Bool.{true, false}
 use mathlib.Core.List.{List, [], _∷_, _++_, append-assoc, append-nil}
@@ -12,16 +12,16 @@ use Rattle.law.specs.Calls.{Rule, unless, Passing, item, asked, at, gran
 use Rattle.law.specs.GrantLaws.{by-turn}
 use Rattle.law.specs.History.{Call, History, after, answered, lived}
 
--- P holds of the new disk and the items, if the call is accepted.
+-- If the call is accepted, P holds of the new disk and the items.
 abbrev pub After : (Disk → List Item → Type 0) → Outcome → Type 0
 After P (refused n) = Unit {0}
 After P (accepted d items) = P d items
 
--- No rule of these holds.
+-- None of the rules holds.
 abbrev pub NoneHolds : List Rule → Type 0
 NoneHolds rs = All (λ r. r .when ≡ false) rs
 
--- A refusal, or the accepted outcome where no rule holds.
+-- P of `unless rs good`: P of every refusal, and P of `good` if no rule holds.
 pub by-rules : (P : Outcome → Type 0) (rs : List Rule) (good : Outcome) → ((n : ℕ) → P (refused n)) → (NoneHolds rs → P good) →
     P (unless rs good)
 by-rules P [] good refuse accept = accept tt
@@ -29,7 +29,7 @@ by-rules P (r ∷ rs) good refuse accept =
     by-test P (r .when) (λ e. refuse (r .number)) (λ e. by-rules P rs good refuse (λ k. accept (e, k)))
 
 module _ (t : Table) where
-  -- A claim that is accepted is granted or waits.
+  -- An accepted claim is granted or waits.
   pub claim-after : (P : Disk → List Item → Type 0) (d : Disk) (q : Asked) →
       (NoneHolds (refusals t d q) → grantedAtOnce t d q ≡ true → P (withGrant t d q) (grantItem t (at d (q .now)) (asked d q) ∷ [])) →
       (NoneHolds (refusals t d q) → grantedAtOnce t d q ≡ false → P (withWait t d q) (waitItem t d q ∷ [])) →
@@ -46,7 +46,7 @@ module _ (t : Table) where
   release-after P d now n h =
       by-rules (After P) (releaseRefusals t d now n) (accepted (withEnd t d now n) (item 2 n ∷ letGo t d now n .items)) (λ m. tt) h
 
-  -- What each grant of a pass keeps, the pass keeps: P speaks of the state, of all that wait and of the answers so far.
+  -- If every grant of a pass keeps P, the pass keeps P. P speaks of the state, all waiting claims and the answers so far.
   module _ (P : Core → List Claim → List Item → Type 0)
       (kept : (s : Core) (ahead : List Claim) (c : Claim) (rest : List Claim) (items : List Item) →
       granted t s ahead c ≡ true → P s (ahead ++ (c ∷ rest)) items →
@@ -63,7 +63,7 @@ module _ (t : Table) where
     pass-keeps p [] h = subst (λ (ws : List Claim). P (p .core) ws (p .items)) (append-nil (p .ahead)) h
     pass-keeps p (c ∷ rest) h = pass-keeps (turn t p c) rest (turn-keeps p c rest h)
 
-  -- What each accepted call keeps, a history keeps, whatever calls it has.
+  -- If every accepted call keeps I, a history of any such calls keeps I.
   pub lived-keeps : (I : History → Type 0) (C : Call → Type 0) →
       ((h : History) (k : Call) → C k → I h → After (λ d items. I (record { disk = d; past = h .past ++ items })) (answered t (h .disk) k)) →
       (h : History) (ks : List Call) → All C ks → I h → I (lived t h ks)

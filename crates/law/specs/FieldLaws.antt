@@ -1,4 +1,4 @@
--- Laws of refusals 17 and 18: a test of a claim's fields says what it asks.
+-- Laws of refusals 17 and 18: each test of a claim's fields decides its proposition in Fields.
 use Prim.Native.Nat.{ℕ}
 use mathlib.Core.Bool.{not}
 use mathlib.Core.Path.{_≡_, ap}

@@ -1,5 +1,5 @@
--- Laws of figures and of active claims by the kind of a method: what a grant notes, raises and tells and what an end lands
--- stays in range. The lock step's tests give the amounts, the preconditions give the sums.
+-- Laws of figures and active claims by the kind of a method: figures and claims stay in range after a grant (amounts noted and raised,
+-- sums told) and after an end (values landed). The lock step's tests bound the amounts, the preconditions bound the sums.
 use Prim.Native.Nat.{ℕ, _+_, _≤_}
 use mathlib.Core.Bool.{Bool, true, false, cond}
 use mathlib.Core.Path.{_≡_, refl, ap, _∙_}
@@ -22,7 +22,7 @@ use Rattle.law.specs.Entries.{entryBy, isNever}
 
 -- ---- attributes
 
--- An attribute, to which the active adds are to add so much.
+-- What an attribute meets, if the active adds to it sum to `adding`.
 pub record AttrFits (now : ℕ) (a : Attribute) (x : Attr) (adding : ℕ) : Type 0 where
   pub value : ValueFits a (x .value)
   pub limit : LimitFits a (x .limit)
@@ -30,17 +30,17 @@ pub record AttrFits (now : ℕ) (a : Attribute) (x : Attr) (adding : ℕ) : Type
   pub stamp : x .stamp ≤ now
   pub sum : SumFits a (size (x .value) + adding)
 
--- At a later second, with other adds.
+-- The same at a later second, with another sum of adds.
 pub attr-kept : {now later : ℕ} {a : Attribute} {x : Attr} {n m : ℕ} → AttrFits now a x n → now ≤ later → SumFits a (size (x .value) + m) →
     AttrFits later a x m
 attr-kept h l e =
     record { value = h .value; limit = h .limit; amount = h .amount; stamp = omega (arith, h .stamp); sum = e }
 
--- What a claim of kind k adds to the sum of attribute a.
+-- What a claim of kind k and value z adds to the sum of attribute a.
 abbrev pub addsBy : Attribute → Kind → ℤ → ℕ
 addsBy a k z = cond (addsTo a k) (size z) 0
 
--- The sum, where (d) holds for an add.
+-- If (d) holds for an add, the sum with it is in range.
 pub grant-sum : (t : Table) (s : Core) (k : Kind) (z : ℤ) → ranged t s k z ≡ true →
     ((a : Attribute) → SumFits a (size (attr (s .figures) a .value) + addsOn t a (s .active))) →
     (a : Attribute) → SumFits a (size (attr (s .figures) a .value) + (addsOn t a (s .active) + addsBy a k z))
@@ -54,7 +54,7 @@ grant-sum t s (adds b) z r h =
 grant-sum t s (reads m) z r h = λ a. sum-less a _ _ (omega arith) (h a)
 
 module _ (f : Figures) {now : ℕ} (adding : Attribute → ℕ) where
-  -- A total within its limit is noted.
+  -- Noting a total that is within the limit.
   amount-attrs : (b : Attribute) (n : ℕ) → n ≤ attr f b .limit → ((a : Attribute) → AttrFits now a (attr f a) (adding a)) →
       (a : Attribute) → AttrFits now a (attr (putAttr f b (withAmount (attr f b) n)) a) (adding a)
   amount-attrs b n l h =
@@ -68,12 +68,12 @@ module _ (f : Figures) {now : ℕ} (adding : Attribute → ℕ) where
   note-attrs (adds b) own n l h = amount-attrs b n l h
   note-attrs (reads m) own n l h = h
 
-  -- With fewer adds.
+  -- The same with fewer adds.
   attrs-less : (more : Attribute → ℕ) → ((a : Attribute) → AttrFits now a (attr f a) (more a + adding a)) →
       (a : Attribute) → AttrFits now a (attr f a) (adding a)
   attrs-less more h a = attr-kept (h a) (omega arith) (sum-less a _ _ (omega arith) (h a .sum))
 
-  -- A set's value lands where no add is active; an add's value moves from the adds to the attribute.
+  -- A set's value lands only where no add is active; an add's value moves from the sum of adds into the attribute.
   pub land-attrs : (k : Kind) (w : Claim) → properKind k ≡ true → FieldsFit now k w → ((a : Attribute) → k ≡ sets a → adding a ≡ 0) →
       ((a : Attribute) → AttrFits now a (attr f a) (addsBy a k (w .value) + adding a)) →
       (a : Attribute) → AttrFits now a (attr (landBy f k w) a) (adding a)
@@ -107,12 +107,12 @@ module _ (f : Figures) {now : ℕ} (adding : Attribute → ℕ) where
 
 -- ---- active claims
 
--- An active claim of kind k.
+-- What an active claim of kind k meets.
 pub record ActiveFits (k : Kind) (c : Claim) : Type 0 where
   pub bare : BareBy k c
   pub reading : ReadingBy k c
 
--- No claim raises an active write.
+-- A requested reading raises no amount, and no request raises an active write's.
 raises-asked : (e : Entry) (m : ℕ) → raisesBy e (reads m) ≡ false
 raises-asked A m = refl
 raises-asked N m = refl
@@ -138,7 +138,7 @@ raises-add a (sets b) = raises-never (same a b) (sets b)
 raises-add a (adds b) = refl
 raises-add a (reads m) = raises-asked (entryBy (adds a) (reads m)) m
 
--- An active reading is raised only within its limit.
+-- An active claim whose growth passes the test still fits.
 pub raised-fits : (k r : Kind) (w : Claim) (more : ℕ) →
     cond (raisesBy (entryBy k r) r) (leb (w .amount + cond (raisesBy (entryBy k r) r) more 0) (w .error)) true ≡ true →
     ActiveFits k w → ActiveFits k (putTold w (w .told) (w .amount + cond (raisesBy (entryBy k r) r) more 0))
@@ -150,14 +150,14 @@ raised-fits (reads m) r w more e h = record { bare = tt; reading = (h .reading .
     go true e = leb-true (w .amount + more) (w .error) e
     go false e = omega (arith, h .reading .1)
 
--- A granted reading is told a sum in range, and its total is within its limit; a write has neither.
+-- A granted reading is told a sum in range, and its total is within its limit; a granted write has told and amount 0.
 pub granted-fits : (f : Figures) (k : Kind) (c : Claim) (n : ℕ) → properKind k ≡ true → ((a : Attribute) → ValueFits a (attr f a .value)) →
     n ≤ limitBy f k (c .error) → ActiveFits k (putTold c (toldBy f k) (amountBy k n))
 granted-fits f (sets a) c n proper h l = record { bare = (refl, refl); reading = tt }
 granted-fits f (adds a) c n proper h l = record { bare = (refl, refl); reading = tt }
 granted-fits f (reads m) c n proper h l = record { bare = tt; reading = (told-range f m proper h, l) }
 
--- ---- no add is active where a set is
+-- ---- no add is active beside a set of the same attribute
 
 never-off : (p : Bool) → isNever (cond p N A) ≡ false → p ≡ false
 never-off true e = e

@@ -1,5 +1,5 @@
--- Laws of what is sound between two calls: what the figures and the claims of a disk meet, with the waiting claims in any
--- order. A later clock, a new claim, a grant and an end each keep it; calls are made of these.
+-- Laws of soundness in the middle of a call: what the figures and claims of a disk meet, with the waiting claims in any order.
+-- A later clock, a new claim, a grant and an end each keep it; calls are made of these.
 use Prim.Native.Nat.{ℕ, _+_, _≤_}
 use mathlib.Core.Bool.{Bool, true, cond}
 use mathlib.Core.List.{List, _∷_, _++_}
@@ -23,7 +23,7 @@ use Rattle.law.specs.GrantLaws.{NotNever, grant-says, adding, adds-grown
 use Rattle.law.specs.Entries.{kindOf}
 
 module _ (t : Table) where
-  -- All that Sound says, but the waiting claims' number and order.
+  -- Everything in Sound except the number and order of the waiting claims.
   pub record Fit (s : Core) (ws : List Claim) (next : ℕ) : Type 0 where
     pub attrs : (a : Attribute) → AttrFits (s .clock) a (attr (s .figures) a) (addsOn t a (s .active))
     pub actives : All (λ c. ActiveFits (kindOf t c) c) (s .active)
@@ -88,7 +88,7 @@ module _ (t : Table) where
           claims = claims-kept t (land-limits (s .figures) (kindOf t w) w) (omega arith) (claims-end t xs w ys (h .claims));
         }
       where
-        -- where the claim is a set, none of the others adds to its attribute
+        -- if the claim is a set, none of the others adds to its attribute
         none : (a : Attribute) → kindOf t w ≡ sets a → addsOn t a (xs ++ ys) ≡ 0
         none a e =
             sum-zero (adding t a) (xs ++ ys)
@@ -97,7 +97,7 @@ module _ (t : Table) where
             (λ v i. ap (λ (p : Bool). cond p (size (v .value)) 0) (no-add-behind a (kindOf t v) (rw e at i)))
             (h .noNever))
 
-    -- The claim of ticket n ends, if it is active.
+    -- The claim with ticket n ends, if it is active.
     pub fit-finish : {s : Core} {ws : List Claim} {next : ℕ} (n : ℕ) → Fit s ws next → Fit (finish t s n) ws next
     unfolding finish
     fit-finish {s} {ws} {next} n h =

@@ -1,4 +1,4 @@
--- Further edges of 01's rules, by computation: what K1 to K12 leave open.
+-- Further edges of 01's rules that K1 to K12 leave open, checked by computation.
 use Prim.Native.Nat.{ℕ, zero, suc}
 use mathlib.Core.Bool.{true}
 use mathlib.Core.List.{List, [], _∷_, _++_}
@@ -21,7 +21,8 @@ figures =
     ∷ releases 0 3 ⇒ ends 3 []
     ∷ claims (addPromised (pos 1) 5) ⇒ grants (write 4 25)
     ∷ [])
-    -- An add whose amount and own error pass the limit waits; its own error alone, refused 18. Adds don't bar adds.
+    -- An add waits if the attribute's amount plus its own error exceeds the limit, and is refused 18 if its own error alone
+    -- does. Adds don't bar adds.
     ∷ opening 0 1_000 10
     (claims (addPromised (pos 1) 6) ⇒ grants (write 1 6)
     ∷ claims (addPromised (pos 1) 6) ⇒ waits 2
@@ -36,7 +37,7 @@ figures =
     ∷ claims (readLoad 77) ⇒ grants (reading 4 (pos 0) 77)
     ∷ carries 4 7
     ∷ [])
-    -- A granted write's total, 4, becomes the attribute's amount at once; the claim itself keeps none.
+    -- A granted write's total, 4, becomes the attribute's amount at once; the claim's own amount stays 0.
     ∷ opening 0 10 1_000
     (claims (reportUsed 100 0) ⇒ grants (write 1 0)
     ∷ claims (reportUsed 104 0) ⇒ grants (write 2 4)
@@ -106,7 +107,7 @@ figures =
 
 unfoldable pub queues : List Situation
 queues =
-    -- A waiting set bars every set of its attribute, also one that agrees with the active. Its release starts a pass.
+    -- A waiting set bars every set of its attribute, even one equal to the active set. Its release starts a pass.
     opening 0 10 1_000
     (claims (reportUsed 100 0) ⇒ grants (write 1 0)
     ∷ claims (reportUsed 200 0) ⇒ waits 2
@@ -128,7 +129,7 @@ queues =
     ∷ claims (priority 4 (reportUsed 50 0)) ⇒ grants (write 3 0)
     ∷ claims (priority 4 (reportUsed 50 0)) ⇒ waits 4
     ∷ [])
-    -- A waiting add bars no set where it waits for a better amount,
+    -- A waiting add bars no set while it waits for a smaller amount,
     ∷ opening 0 1_000 10
     (claims (addPromised (pos 1) 6) ⇒ grants (write 1 6)
     ∷ releases 0 1 ⇒ ends 1 []
@@ -136,7 +137,7 @@ queues =
     ∷ claims (setPromised 5 0) ⇒ grants (write 3 0)
     ∷ releases 0 3 ⇒ ends 3 (write 2 6 ∷ [])
     ∷ [])
-    -- or for a value that leaves it room.
+    -- nor while it waits for a value that leaves room for it.
     ∷ usual
     (claims (setPromised 999_999_999 0) ⇒ grants (write 1 0)
     ∷ releases 0 1 ⇒ ends 1 []
@@ -144,7 +145,8 @@ queues =
     ∷ claims (setPromised 5 0) ⇒ grants (write 3 0)
     ∷ releases 0 3 ⇒ ends 3 (write 2 0 ∷ [])
     ∷ [])
-    -- Time alone unbars: at 300 the fresh reading 2 is stale, and 3 is granted at its distance to 1.
+    -- Time alone can lift a bar: at 300 used is stale for the fresh reading 2, which then bars
+    -- nobody, and 3 is granted at its distance to 1.
     ∷ usual
     (claims (priority 1 (reportUsed 500 0)) ⇒ grants (write 1 0)
     ∷ claims (priority 9 (fresh (readUsed 0))) ⇒ waits 2
@@ -152,7 +154,7 @@ queues =
     ∷ claims (readState 0) ⇒ grants (reading 4 (pos 0) 0)
     ∷ releases 300 4 ⇒ ends 4 (write 3 100 ∷ [])
     ∷ [])
-    -- Barring within a pass is on the state so far: the grant of 3 lets 2 bar 4. There is no second pass for 2.
+    -- Barring in a pass goes by the state so far: after the grant of 3, 2 bars 4. There is no second pass for 2.
     ∷ usual
     (claims (reportUsed 0 5) ⇒ grants (write 1 5)
     ∷ claims (priority 9 (readUsed 4)) ⇒ waits 2
@@ -160,7 +162,7 @@ queues =
     ∷ claims (priority 7 (reportUsed 2_000 0)) ⇒ waits 4
     ∷ releases 0 1 ⇒ ends 1 (write 3 0 ∷ [])
     ∷ [])
-    -- One pass: the grant of 5 leaves used with amount 0, which 3 could bear, but 3 has been tried. The next pass grants it.
+    -- One pass: the grant of 5 leaves used with amount 0, which 3 could bear, but 3 was tried before. The next pass grants it.
     ∷ usual
     (claims (reportUsed 0 5) ⇒ grants (write 1 5)
     ∷ releases 0 1 ⇒ ends 1 []
@@ -171,7 +173,7 @@ queues =
     ∷ releases 0 4 ⇒ ends 4 (write 5 0 ∷ [])
     ∷ releases 0 2 ⇒ ends 2 (reading 3 (pos 0) 0 ∷ [])
     ∷ [])
-    -- A grant by itself starts no pass: 3 leaves used with amount 0, and 2 waits on till the release.
+    -- A grant by itself starts no pass: the grant of 3 sets used's amount to 0, but 2 waits until the release.
     ∷ usual
     (claims (reportUsed 40 5) ⇒ grants (write 1 5)
     ∷ releases 0 1 ⇒ ends 1 []
@@ -179,7 +181,7 @@ queues =
     ∷ claims (priority 4 (reportUsed 41 0)) ⇒ grants (write 3 0)
     ∷ releases 0 3 ⇒ ends 3 (reading 2 (pos 41) 0 ∷ [])
     ∷ [])
-    -- An item shows the amount at its grant: 0, though the next grant of the pass brings the reading to 50.
+    -- An item shows the amount at its grant: 0, though the next grant of the pass raises the reading's amount to 50.
     ∷ usual
     (claims (reportUsed 300 0) ⇒ grants (write 1 0)
     ∷ claims (priority 9 (readUsed 100)) ⇒ waits 2
@@ -187,7 +189,7 @@ queues =
     ∷ releases 0 1 ⇒ ends 1 (reading 2 (pos 300) 0 ∷ write 3 0 ∷ [])
     ∷ bears 2 (pos 300) 50
     ∷ [])
-    -- Those that a pass leaves waiting keep their order for the next.
+    -- Claims that a pass leaves waiting keep their order for the next one.
     ∷ usual
     (claims (reportUsed 100 0) ⇒ grants (write 1 0)
     ∷ claims (priority 9 (readUsed 0)) ⇒ waits 2
@@ -196,7 +198,7 @@ queues =
     ∷ releases 0 4 ⇒ ends 4 []
     ∷ releases 0 1 ⇒ ends 1 (reading 2 (pos 100) 0 ∷ reading 3 (pos 100) 0 ∷ [])
     ∷ [])
-    -- Higher priority first, then lower ticket. State against state never, unless both read.
+    -- Higher priority first, then lower ticket. Two claims on the state: N, unless both read it.
     ∷ usual
     (claims (setState 3) ⇒ grants (write 1 0)
     ∷ claims (readState 0) ⇒ waits 2
@@ -208,7 +210,7 @@ queues =
 
 -- ---- places and refusals
 
--- The steps for k tickets from n on.
+-- A step for each of the k tickets from n on.
 abbrev each : ℕ → ℕ → (ℕ → Step) → List Step
 each zero n step = []
 each (suc k) n step = step n ∷ each k (suc n) step
@@ -228,7 +230,7 @@ refusing =
     ∷ releases 301 2 ⇒ ends 2 []
     ∷ releases 300 1 ⇒ refuses 15
     ∷ [])
-    -- Every refusal leaves the disk: its clock, its ticket.
+    -- No refusal changes the disk: neither its clock nor its next ticket.
     ∷ opening 100 1_000 1_000
     (claims (second 99 (asks 7 (pos 0) 0)) ⇒ refuses 15
     ∷ claims (second 200 (asks 7 (pos 0) 0)) ⇒ refuses 16

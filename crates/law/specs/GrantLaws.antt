@@ -1,5 +1,5 @@
--- Laws of a grant: what it has passed; the starting amount is within its limit, the lock step may be walked claim by claim,
--- and an answer shows the amount at that grant, whatever a pass grants after it.
+-- Laws of a grant: which tests it has passed; the starting amount is within its limit; the lock step is 01's walk claim by
+-- claim; an answer shows the amount at that grant, whatever the pass grants after it.
 use Prim.Native.Nat.{ℕ, _+_, _≤_, _<_}
 use mathlib.Core.Bool.{Bool, true, false, cond, not, _&&_, and-false, true≢false}
 use mathlib.Core.List.{List, [], _∷_, _++_, map, append-assoc, append-nil}
@@ -22,7 +22,7 @@ use Rattle.law.specs.Fields.{OwnFits}
 use Rattle.law.specs.Entries.{isNever, kindOf, entry}
 use Rattle.law.specs.Readings.{carried}
 
--- Under D, and under G where a reading is requested, something is added to the total.
+-- Under D, and under G if a reading is requested, the active claim adds to the total.
 abbrev pub counts : Entry → Kind → Bool
 counts A k = false
 counts N k = false
@@ -49,9 +49,9 @@ amount-put f a1 n = refl
 amount-put f a2 n = refl
 
 module _ (t : Table) where
-  -- ---- what a grant has passed, and whom it adds to
+  -- ---- which tests a grant has passed, and what it adds
 
-  -- Their entry isn't N.
+  -- The entry of the two claims isn't N.
   abbrev pub NotNever : Claim → Claim → Type 0
   NotNever x y = isNever (entry t x y) ≡ false
 
@@ -79,7 +79,7 @@ module _ (t : Table) where
   abbrev pub adding : Attribute → Claim → ℕ
   adding a c = cond (addsTo a (kindOf t c)) (size (c .value)) 0
 
-  -- The adds after a grant are those before, and the granted one.
+  -- The sum of the adds after a grant: the sum before it, plus what the granted claim adds.
   pub adds-grown : (a : Attribute) (s : Core) (c : Claim) (ws : List Claim) →
       addsOn t a (map (raised t s c) ws ++ (asGranted t s c ∷ [])) ≡ addsOn t a ws + adding a c
   adds-grown a s c ws =
@@ -105,7 +105,7 @@ module _ (t : Table) where
   pub start-reads : (s : Core) (c : Claim) (m : ℕ) → kindOf t c ≡ reads m → start t s c ≡ carried (s .figures) m
   start-reads s c m p = rw p
 
-  -- 01's lock step word by word: each active claim in turn, the total n tested wherever something was added to it.
+  -- 01's lock step word by word: take each active claim in turn, and test the total n wherever something was added to it.
   unfoldable pub walked : Core → Claim → ℕ → List Claim → Bool
   walked s c n [] = true
   walked s c n (w ∷ ws) =
@@ -116,7 +116,7 @@ module _ (t : Table) where
       ∷ [])
       && walked s c (n + cost t s c w) ws
 
-  -- The three tests of the lock step over the claims that are left.
+  -- The three tests of the lock step, over the remaining claims.
   left : Core → Claim → ℕ → List Claim → Bool
   left s c n ws =
       allTrue
@@ -147,7 +147,7 @@ module _ (t : Table) where
       stay : Bool
       stay = everyOf (stays t s c) ws
 
-      -- where the total is passed already, something was added, and the whole sum is too large
+      -- if n + x is over the limit, w has added something, and the whole sum is over it too
       passes : (b : Bool) → counts (entry t w c) (kindOf t c) ≡ b → leb (n + x) l ≡ false → b ≡ true
       passes true p r = refl
       passes false p r =
@@ -183,7 +183,7 @@ module _ (t : Table) where
 
   -- ---- answers
 
-  -- A write's amount in its answer is the attribute's amount after the grant; a reading's is its own.
+  -- A write's answer shows the attribute's amount after the grant; a reading's shows its own amount.
   pub set-shows : (s : Core) (c : Claim) (a : Attribute) → kindOf t c ≡ sets a → attr (grant t s c .figures) a .amount ≡ grantItem t s c .amount
   unfolding grant grantItem
   set-shows s c a p = ap (λ (k : Kind). attr (noteBy (s .figures) k (total t s c)) a .amount) p ∙ amount-put (s .figures) a (total t s c)
@@ -197,7 +197,7 @@ module _ (t : Table) where
   unfolding grantItem
   reading-shows s c m p = (ap (λ (k : Kind). amountBy k (total t s c)) p, refl)
 
-  -- A turn of the pass grants its claim, or leaves it to wait.
+  -- A turn of the pass grants its claim or leaves it waiting.
   pub by-turn : (P : Passing → Type 0) (p : Passing) (c : Claim) →
       (granted t (p .core) (p .ahead) c ≡ true →
       P (record { core = grant t (p .core) c; ahead = p .ahead; items = p .items ++ (grantItem t (p .core) c ∷ []) })) →
@@ -206,7 +206,7 @@ module _ (t : Table) where
   unfolding turn
   by-turn P p c grants waits = by-test P (granted t (p .core) (p .ahead) c) grants waits
 
-  -- A turn that grants adds the answer of that very grant; later turns leave it.
+  -- A turn that grants appends the answer of that grant.
   pub turn-answers : (p : Passing) (c : Claim) → granted t (p .core) (p .ahead) c ≡ true →
       turn t p c .items ≡ p .items ++ (grantItem t (p .core) c ∷ [])
   turn-answers p c h =
@@ -217,7 +217,7 @@ module _ (t : Table) where
       by-turn (λ q. (new : List Item) × (q .items ≡ p .items ++ new)) p c (λ e. (grantItem t (p .core) c ∷ [], refl))
       (λ e. ([], sym (append-nil (p .items))))
 
-  -- The answers of a pass so far stand in front of all that follow, as they were given.
+  -- Later turns only append: the answers so far stay in front, unchanged.
   pub answers-stay : (p : Passing) (cs : List Claim) → (new : List Item) × (passOver t p cs .items ≡ p .items ++ new)
   unfolding passOver
   answers-stay p [] = ([], sym (append-nil (p .items)))

@@ -1,5 +1,5 @@
--- Demand 3, second half, for one disk: no reader pays for another's limit. Under exactly the mission's conditions a reading
--- is granted in its own call, is told the present sum, and its amount is the error that the figures carry.
+-- Demand 3, second half, for one disk: no reader pays for another's limit. Under exactly the mission's conditions a reading is
+-- granted in its own call and is told the present sum, and its amount is the error that the figures carry.
 use Prim.Native.Nat.{ℕ, _+_, _≤_, _<_}
 use mathlib.Core.Bool.{Bool, true, false, cond, not, _&&_}
 use mathlib.Core.List.{[], _∷_}
@@ -25,7 +25,7 @@ use Rattle.law.specs.Entries.{entryBy, isAlways, isNever, kindAt, kindOf
 use Rattle.law.specs.Readings.{everyRead, present, carried}
 use Rattle.law.specs.Conditions.{writesWhat, Reading, Free, readingItem}
 
--- ---- a claim that writes nothing of what the reading reads goes with it always
+-- ---- a claim that writes nothing the reading reads has entry A with it
 
 entry-free : (m : ℕ) (k : Kind) → writesWhat m k ≡ false → entryBy k (reads m) ≡ A
 entry-free m (sets a) h = ap (λ (b : Bool). cond b (cond (metric a) G N) A) h

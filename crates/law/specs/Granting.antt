@@ -18,13 +18,13 @@ use Rattle.law.specs.Entries.{isAlways, isNever, kindOf, entry}
 
 -- ---- the rules by the kind of a claim's method
 
--- The claim adds to attribute a.
+-- A method of this kind adds to attribute a.
 abbrev pub addsTo : Attribute → Kind → Bool
 addsTo a (sets b) = false
 addsTo a (adds b) = same a b
 addsTo a (reads m) = false
 
--- The gap that a write of the value z leaves to the present figures: |z − value| for a set and |d| for an add.
+-- The gap between a write of value z and the present figures: |z − value| for a set, |d| for an add.
 abbrev pub gapBy : Figures → Kind → ℤ → ℕ
 gapBy f (sets a) z = dist z (attr f a .value)
 gapBy f (adds a) d = size d
@@ -36,14 +36,14 @@ startBy f (sets a) own = own
 startBy f (adds a) own = attr f a .amount + own
 startBy f (reads m) stated = carried f m
 
--- What the total must stay within: the attribute's limit, or the stated limit of a reading.
+-- The limit of the total: the attribute's limit for a write, the stated limit for a reading.
 abbrev pub limitBy : Figures → Kind → ℕ → ℕ
 limitBy f (sets a) own = attr f a .limit
 limitBy f (adds a) own = attr f a .limit
 limitBy f (reads m) stated = stated
 
--- What an active claim adds to the total of the requested one, of kind k: the distance d of two sets under D; the active
--- write's gap g under G, where a reading is requested.
+-- What one active claim adds to the total of a requested claim of kind k: under D the distance d of the two sets; under G, if a
+-- reading is requested, the active write's gap g; otherwise nothing.
 abbrev pub costBy : Entry → Kind → ℕ → ℕ → ℕ
 costBy A k d g = 0
 costBy N k d g = 0
@@ -52,7 +52,7 @@ costBy G (sets a) d g = 0
 costBy G (adds a) d g = 0
 costBy G (reads m) d g = g
 
--- The requested claim, of kind k, raises the active one's amount: under G, where a write is requested.
+-- Whether a requested claim of kind k raises the active claim's amount: only under G, if a write is requested.
 abbrev pub raisesBy : Entry → Kind → Bool
 raisesBy A k = false
 raisesBy N k = false
@@ -61,7 +61,7 @@ raisesBy G (sets a) = true
 raisesBy G (adds a) = true
 raisesBy G (reads m) = false
 
--- An attribute with another amount.
+-- The attribute x with amount n.
 abbrev pub withAmount : Attr → ℕ → Attr
 withAmount x n = record { value = x .value; stamp = x .stamp; amount = n; limit = x .limit }
 
@@ -83,20 +83,20 @@ amountBy (sets a) total = 0
 amountBy (adds a) total = 0
 amountBy (reads m) total = total
 
--- The error carried at a grant, where a reading is granted.
+-- The error carried at the grant of a reading; 0 for a write.
 abbrev pub carriedBy : Figures → Kind → ℕ
 carriedBy f (sets a) = 0
 carriedBy f (adds a) = 0
 carriedBy f (reads m) = carried f m
 
--- One field holds a write's own error and a reading's stated limit.
+-- The field `error` is a write's own error or a reading's stated limit; these two names say which is meant.
 abbrev pub ownError : Claim → ℕ
 ownError c = c .error
 
 abbrev pub statedLimit : Claim → ℕ
 statedLimit c = c .error
 
--- A claim with another told sum and amount.
+-- The claim c with another told sum and amount.
 abbrev pub putTold : Claim → ℤ → ℕ → Claim
 putTold c told amount =
     record {
@@ -170,7 +170,7 @@ module _ (t : Table) where
   abbrev pub cost : Core → Claim → Claim → ℕ
   cost s c w = costBy (entry t w c) (kindOf t c) (dist (c .value) (w .value)) (gap s w)
 
-  -- The starting amount and what each active claim adds.
+  -- The starting amount plus what each active claim adds.
   unfoldable pub total : Core → Claim → ℕ
   total s c = start s c + sumOf (cost s c) (s .active)
 
@@ -178,13 +178,13 @@ module _ (t : Table) where
   abbrev pub growth : Core → Claim → Claim → ℕ
   growth s c w = cond (raisesBy (entry t w c) (kindOf t c)) (ownError c + gap s c) 0
 
-  -- It must stay ≤ that reading's limit.
+  -- The raised amount must stay ≤ that reading's limit.
   abbrev pub stays : Core → Claim → Claim → Bool
   stays s c w = cond (raisesBy (entry t w c) (kindOf t c)) (leb (w .amount + growth s c w) (statedLimit w)) true
 
-  -- No entry N; the total within its limit; each active reading within its own. Where no claim adds to the total it is the
-  -- starting amount, which 18, (b) and (c) hold within the limit (start-within); so the one test at the end is 01's test at
-  -- each claim (lock-in-turn).
+  -- No entry is N; the total is within its limit; each active reading stays within its own. 01 tests the total after each claim
+  -- that adds to it; one test at the end is the same (lock-in-turn), also if no claim adds: the total is then the starting
+  -- amount, which 18, (b) and (c) keep within the limit (start-within).
   abbrev pub lockTests : Core → Claim → List Bool
   lockTests s c =
       everyOf (λ w. not (isNever (entry t w c))) (s .active)
@@ -204,7 +204,7 @@ module _ (t : Table) where
 
   -- ---- granted
 
-  -- Preconditions hold, nothing ahead bars, the lock step passes, fewer than 8 are active.
+  -- The preconditions hold, no claim ahead bars, the lock step passes, fewer than 8 are active.
   abbrev pub grantTests : Core → List Claim → Claim → List Bool
   grantTests s ahead c =
       preconditions s c
@@ -216,11 +216,11 @@ module _ (t : Table) where
   unfoldable pub granted : Core → List Claim → Claim → Bool
   granted s ahead c = allTrue (grantTests s ahead c)
 
-  -- The active claim w, after the grant of c.
+  -- The active claim w after the grant of c.
   abbrev pub raised : Core → Claim → Claim → Claim
   raised s c w = putTold w (w .told) (w .amount + growth s c w)
 
-  -- The claim c, granted.
+  -- The claim c as it becomes active.
   abbrev pub asGranted : Core → Claim → Claim
   asGranted s c = putTold c (toldBy (s .figures) (kindOf t c)) (amountBy (kindOf t c) (total s c))
 
@@ -233,7 +233,7 @@ module _ (t : Table) where
         active = map (raised s c) (s .active) ++ (asGranted s c ∷ []);
       }
 
-  -- The answer of that grant.
+  -- The answer item of that grant.
   unfoldable pub grantItem : Core → Claim → Item
   grantItem s c =
       record {

@@ -1,26 +1,27 @@
--- Any calls on one disk from its opening, refused ones among them, and the answers given so far.
+-- The history of one disk: any calls since its opening, refused ones included, and the answers given so far.
 use Prim.Native.Nat.{ℕ}
 use mathlib.Core.List.{List, [], _∷_, _++_}
 use mathlib.Core.Path.{_≡_}
 use Rattle.law.specs.Types.{Table, Disk, Asked, Item, Outcome, refused, accepted}
 use Rattle.law.specs.Calls.{opened, item, claim, release}
 
--- A request on an open disk: a claim, or the release at second now of a ticket. (An open of an open disk is refused.)
+-- A request on an open disk: a claim, or the release of a ticket at second now. (Another open is refused.)
 pub data Call : Type 0 where
   claims : Asked → Call
   releases : (now ticket : ℕ) → Call
 
--- A disk with the items of all answers given since its opening, each call's own and its pass's.
+-- A disk and all answer items given since its opening: each call's own, then its pass's.
 pub record History : Type 0 where
   pub disk : Disk
   pub past : List Item
 
--- A refusal leaves the disk as it was; only what accepted calls answered is kept.
+-- A refusal changes nothing; an accepted call adds its items.
 abbrev pub after : History → Outcome → History
 after h (refused n) = h
 after h (accepted d items) = record { disk = d; past = h .past ++ items }
 
--- The history of a disk opened at second now with these limits of used and promised, also with such as open refuses.
+-- The history of a disk just opened at second now, with limits l0 of used and l1 of promised.
+-- Limits that open refuses are not excluded here.
 abbrev pub begun : ℕ → ℕ → ℕ → History
 begun now l0 l1 = record { disk = opened now l0 l1; past = item 3 0 ∷ [] }
 
@@ -34,6 +35,6 @@ module _ (t : Table) where
   lived h [] = h
   lived h (k ∷ ks) = lived (after h (answered (h .disk) k)) ks
 
--- Two items do not grant one ticket.
+-- The items i and j do not both grant the same ticket.
 abbrev pub Once : Item → Item → Type 0
 Once i j = i .code ≡ 0 → j .code ≡ 0 → i .ticket ≡ j .ticket → ⊥

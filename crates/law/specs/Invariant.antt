@@ -1,5 +1,5 @@
--- Laws of a history: every ticket is granted at most once, and every reading that is still active is held within its limit.
--- Shown for a new claim that waits, for the end of a claim and for the grant of one that waits; a call is made of these.
+-- Laws of a history: every ticket is granted at most once, and every reading still active is covered (Covered). Shown for a
+-- new claim that waits, for the end of a claim and for the grant of a waiting one; a call is made of these.
 use Prim.Native.Nat.{ℕ, _+_, _≤_, _<_}
 use mathlib.Core.Bool.{true}
 use mathlib.Core.List.{List, [], _∷_, _++_}
@@ -20,12 +20,12 @@ use Rattle.law.specs.GrantLaws.{NotNever, MayGrant, grant-says}
 use Rattle.law.specs.Near.{gapOn, shareOf}
 use Rattle.law.specs.Covered.{Covered, covered-grant, covered-start, covered-end}
 
--- An item of a grant has been given, and its claim does not wait.
+-- If the item grants, its ticket has been taken, and its claim no longer waits.
 abbrev pub Given : ℕ → List Claim → Item → Type 0
 Given next waiting i = i .code ≡ 0 → (i .ticket < next) × All (λ w. w .ticket ≡ i .ticket → ⊥) waiting
 
 module _ (t : Table) where
-  -- The reading r is the one of item i, and is held.
+  -- The reading r was granted by item i, and is covered.
   pub record Bears (f : Figures) (active : List Claim) (m : ℕ) (i : Item) (r : Claim) : Type 0 where
     pub z : Attribute → ℤ
     pub share : Attribute → ℕ
@@ -38,14 +38,14 @@ module _ (t : Table) where
   abbrev pub AllBorne : Figures → List Claim → Item → Type 0
   AllBorne f active i = i .code ≡ 0 → All (Borne f active i) active
 
-  -- What holds of the figures, the claims, the next ticket and the answers given so far.
+  -- The invariant of the figures, the claims, the next ticket and the answers given so far.
   pub record Invariant (f : Figures) (active waiting : List Claim) (next : ℕ) (past : List Item) : Type 0 where
     pub tickets : Ticketed next active waiting
     pub given : All (Given next waiting) past
     pub once : Pairs Once past
     pub borne : All (AllBorne f active) past
 
-  -- An answer that grants nothing changes nothing.
+  -- An answer that grants nothing keeps it.
   pub kept-note : {f : Figures} {active waiting : List Claim} {next : ℕ} {past : List Item} (i : Item) → (i .code ≡ 0 → ⊥) →
       Invariant f active waiting next past → Invariant f active waiting next (past ++ (i ∷ []))
   kept-note {f} {active} {waiting} {next} {past} i other h =
@@ -56,7 +56,7 @@ module _ (t : Table) where
         borne = all-append (AllBorne f active) past (i ∷ []) (h .borne) ((λ e. absurd (other e)), tt);
       }
 
-  -- A new claim takes the next ticket and waits, at whatever place.
+  -- A new claim takes the next ticket and waits, at any position.
   pub kept-new : {f : Figures} {active : List Claim} {next : ℕ} {past : List Item} (xs ys : List Claim) (c : Claim) →
       c .ticket ≡ next → Invariant f active (xs ++ ys) next past → Invariant f active (xs ++ (c ∷ ys)) (next + 1) past
   kept-new {next = next} {past = past} xs ys c e h =
@@ -86,7 +86,7 @@ module _ (t : Table) where
         borne = h .borne;
       }
 
-  -- The claim of ticket n ends, if it is active.
+  -- The claim with ticket n ends, if it is active.
   pub kept-end : {f : Figures} {active waiting : List Claim} {next : ℕ} {past : List Item} (n : ℕ) →
       Invariant f active waiting next past → Invariant (landed t f n active) (without n active) waiting next past
   kept-end {f} {active} {waiting} {next} {past} n h =
@@ -119,7 +119,7 @@ module _ (t : Table) where
       left : List Claim
       left = without n active
 
-  -- The grant of a claim that waits: the readings before it are raised, and its own answer begins its own bound.
+  -- A waiting claim is granted: active readings are raised, and if it is a reading, its own answer starts its own bound.
   pub kept-grant : (s : Core) {next : ℕ} {past : List Item} (ahead : List Claim) (c : Claim) (xs ys : List Claim) →
       granted t s ahead c ≡ true →
       Invariant (s .figures) (s .active) (xs ++ (c ∷ ys)) next past →

@@ -1,5 +1,5 @@
--- What the desk does, for one disk. Read the definitions in this order; each can be computed. They must be believed: nothing checks
--- that they are 01's rules but reading them, and the situations of Situations, LooksRight and Further.
+-- What the desk does, for one disk. The definitions come first, in reading order; each can be computed. They have to be
+-- trusted: only reading them, and the situations in Situations, LooksRight and Further, can tell that they are 01's rules.
 pub mod Base
 pub mod Types
 pub mod Readings
@@ -12,13 +12,14 @@ pub mod Sound
 pub mod Fields
 pub mod Sentences
 pub mod Conditions
--- 01's situations, by which the definitions are tried: Steps says how a situation is written down.
+-- 01's situations, which test the definitions. Steps defines how a situation is written down.
 pub mod Steps
 pub mod Situations
 pub mod LooksRight
 pub mod Further
--- From here on laws. The checker has checked them, and nobody has to read a proof to know what is promised. The theorems of docs/PROMISES.md
--- stand in TableLaws, SoundTest, Refusals, GrantLaws, SoundKept, Safety, ReaderBound, GrantedAtOnce and Tickets; the other files serve them.
+-- The rest are laws. They are proved, so nobody has to read a proof to know what is promised. The theorems of docs/PROMISES.md
+-- stand in TableLaws, SoundTest, Refusals, GrantLaws, SoundKept, Safety, ReaderBound, GrantedAtOnce and Tickets; the other
+-- files are lemmas for them.
 pub mod Lists
 pub mod Says
 pub mod FieldLaws

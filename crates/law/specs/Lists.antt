@@ -1,4 +1,4 @@
--- Laws of lists: a fact of every element, a fact of every two, and how they go with the tests and sums of Base.
+-- Laws of lists: facts that hold of every element or of every two elements, and how they follow from the tests and sums of Base.
 use Prim.Native.Nat.{ℕ, zero, suc, _+_, _<_}
 use mathlib.Core.Bool.{Bool, true, false, cond, _&&_, _||_}
 use mathlib.Core.List.{List, [], _∷_, _++_, map}
@@ -41,7 +41,7 @@ module _ {A : Type 0} (P : A → Type 0) where
   all-right [] ys h = h
   all-right (x ∷ xs) ys h = all-right xs ys (h .1)
 
-  -- The one in the middle, and the others without it.
+  -- From a list with y in the middle: the fact of y, and the facts of the others.
   pub all-there : (xs : List A) (y : A) (ys : List A) → All P (xs ++ (y ∷ ys)) → P y
   all-there xs y ys h = all-right xs (y ∷ ys) h .0
 
@@ -49,7 +49,7 @@ module _ {A : Type 0} (P : A → Type 0) where
   all-less [] y ys h = h .1
   all-less (x ∷ xs) y ys h = (h .0, all-less xs y ys (h .1))
 
--- At a place of the list.
+-- The fact of the element at index i.
 pub all-at : {A : Type 0} (P : A → Type 0) (xs : List A) (d : A) (i : ℕ) → i < length xs → All P xs → P (getD xs i d)
 all-at P [] d i h k = absurd (omega arith)
 all-at P (x ∷ xs) d zero h k = k .0
@@ -82,7 +82,7 @@ module _ {A : Type 0} (R : A → A → Type 0) where
   pairs-less [] y ys h = h .1
   pairs-less (x ∷ xs) y ys h = (all-less (R x) xs y ys (h .0), pairs-less xs y ys (h .1))
 
-  -- One more at the end.
+  -- One more element at the end.
   pub pairs-last : (xs : List A) (y : A) → Pairs R xs → All (λ x. R x y) xs → Pairs R (xs ++ (y ∷ []))
   pairs-last [] y h k = (tt, tt)
   pairs-last (x ∷ xs) y h k = (all-append (R x) xs (y ∷ []) (h .0) (k .0, tt), pairs-last xs y (h .1) (k .1))
@@ -94,7 +94,7 @@ pairs-map R S f g (x ∷ xs) h =
 
 -- ---- tests
 
--- The halves of a joint test.
+-- Both halves of a test joined by &&.
 pub and-left : (a b : Bool) → (a && b) ≡ true → a ≡ true
 and-left true b h = refl
 and-left false b h = h
@@ -120,7 +120,7 @@ pub all-passed : (bs : List Bool) → Passed bs → allTrue bs ≡ true
 all-passed [] h = refl
 all-passed (b ∷ bs) h = and-both b (allTrue bs) (h .0) (all-passed bs (h .1))
 
--- Where P passes the test, all pass it; where P fails it, none does.
+-- If P implies that the test passes, every element passes; if P implies that it fails, none does.
 module _ {A : Type 0} (p : A → Bool) (P : A → Type 0) where
   pub every-tests : ((x : A) → P x → p x ≡ true) → (xs : List A) → All P xs → everyOf p xs ≡ true
   every-tests f [] h = refl
@@ -162,7 +162,7 @@ module _ {A : Type 0} (R : A → A → Type 0) where
   pairs-more [] y ys h k p = (k, p)
   pairs-more (x ∷ xs) y ys h k p = (all-more (R x) xs y ys (h .0) (p .0), pairs-more xs y ys (h .1) (k .1) (p .1))
 
-  -- What R says of those before one and of those behind it.
+  -- A fact Q of all elements but y: of those before y by `R x y`, of those behind y by `R y x`.
   pub pairs-around : (Q : A → Type 0) (xs : List A) (y : A) (ys : List A) → ((x : A) → R x y → Q x) → ((x : A) → R y x → Q x) →
       Pairs R (xs ++ (y ∷ ys)) → All Q (xs ++ ys)
   pairs-around Q [] y ys f g p = all-say (R y) Q g ys (p .0)
@@ -185,7 +185,7 @@ module _ {A : Type 0} (g : A → A) (xs : List A) (y : A) where
       Pairs R (map g xs ++ (y ∷ []))
   pairs-grown R same h k = pairs-last R (map g xs) y (pairs-map R R g same xs h) (all-map (λ x. R x y) g xs k)
 
--- A list of one element over and over has it everywhere, also past its end.
+-- A list of n copies of x has x at every index, also past its end if x is the default.
 pub getD-filled : {A : Type 0} (n i : ℕ) (x : A) → getD (replicate n x) i x ≡ x
 getD-filled zero i x = refl
 getD-filled (suc n) zero x = refl

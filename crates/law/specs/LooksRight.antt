@@ -1,4 +1,4 @@
--- 01's "Errors that look right": for each of the five, situations that come out otherwise where it is made.
+-- 01's "Errors that look right": for each of the five, situations whose outcome differs if the error is made.
 use mathlib.Core.Bool.{true}
 use mathlib.Core.List.{List, [], _∷_}
 use mathlib.Core.Path.{_≡_, refl}
@@ -9,7 +9,7 @@ use Rattle.law.specs.Steps.{reportUsed, addPromised, readUsed, readLoad,
 
 unfoldable pub looksRight : List Situation
 looksRight =
-    -- A new set is compared with each active set: 4; 6 + 2; 5 + 1 + 1; 7 + 3 + 1 + 2 is over 10.
+    -- A new set is compared with each active set: 4; 6 + 2; 5 + 1 + 1; 7 + 3 + 1 + 2, which is over 10.
     opening 0 10 1_000
     (claims (reportUsed 100 0) ⇒ grants (write 1 0)
     ∷ claims (reportUsed 104 0) ⇒ grants (write 2 4)
@@ -17,7 +17,7 @@ looksRight =
     ∷ claims (reportUsed 105 0) ⇒ grants (write 4 7)
     ∷ claims (reportUsed 107 0) ⇒ waits 5
     ∷ [])
-    -- A report waits for the second reading's limit, and leaves the first one's amount too.
+    -- A report that would exceed the second reading's limit waits, and the first reading's amount stays as it was too.
     ∷ usual
     (claims (readUsed 100) ⇒ grants (reading 1 (pos 0) 0)
     ∷ claims (readUsed 50) ⇒ grants (reading 2 (pos 0) 0)
@@ -28,7 +28,7 @@ looksRight =
     ∷ bears 1 (pos 0) 50
     ∷ bears 2 (pos 0) 50
     ∷ [])
-    -- A report waits for its distance to another, and leaves the reading's amount.
+    -- A report too far from an active report waits, and the reading's amount stays as it was.
     ∷ opening 0 10 1_000
     (claims (readUsed 1_000) ⇒ grants (reading 1 (pos 0) 0)
     ∷ claims (reportUsed 100 0) ⇒ grants (write 2 0)
@@ -43,7 +43,7 @@ looksRight =
     ∷ bears 1 (pos 0) 1_000
     ∷ claims (addPromised (pos 1) 0) ⇒ waits 4
     ∷ [])
-    -- and in that of a requested one.
+    -- nor in the amount of a requested one.
     ∷ usual
     (claims (addPromised (pos 500) 0) ⇒ grants (write 1 0)
     ∷ claims (addPromised (minus 500) 0) ⇒ grants (write 2 0)

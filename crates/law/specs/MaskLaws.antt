@@ -1,4 +1,4 @@
--- Laws of sums over a mask: each attribute that is read counts with what it has.
+-- Laws of sums over a mask: each attribute in the mask counts with its own term.
 use Prim.Native.Nat.{ℕ, _+_, _≤_}
 use mathlib.Core.Bool.{Bool, true, false, cond}
 use mathlib.Core.Path.{_≡_, refl}
@@ -25,7 +25,7 @@ sum-two m f g =
       cond-add (within m a2) (f a2) (g a2),
     )
 
--- What one attribute has counts where it is read.
+-- A term of one attribute counts exactly if the attribute is in the mask.
 pub sum-one : (m : ℕ) (b : Attribute) (x : ℕ) → sumRead m (λ a. cond (same a b) x 0) ≡ cond (within m b) x 0
 sum-one m a0 x = omega (arith, cond-zero (within m a1), cond-zero (within m a2))
 sum-one m a1 x = omega (arith, cond-zero (within m a0), cond-zero (within m a2))
@@ -34,7 +34,7 @@ sum-one m a2 x = omega (arith, cond-zero (within m a0), cond-zero (within m a1))
 pub sum-none : (m : ℕ) → sumRead m (λ a. 0) ≡ 0
 sum-none m = omega (arith, cond-zero (within m a0), cond-zero (within m a1), cond-zero (within m a2))
 
--- Two told sums differ by no more than the shares of what is read.
+-- If the values of each attribute read differ by at most its share, the told sums differ by at most the sum of the shares.
 dist-part : (b : Bool) (y z : ℤ) (n : ℕ) → (b ≡ true → dist y z ≤ n) → dist (cond b y (pos 0)) (cond b z (pos 0)) ≤ cond b n 0
 dist-part true y z n h = h refl
 dist-part false y z n h = omega (arith, dist-self (pos 0))

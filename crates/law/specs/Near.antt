@@ -1,5 +1,5 @@
 -- Laws of one attribute under a reading that was told z of it: the present value, and every value that the active claims can
--- still bring, lie within its share of z. A grant costs the share no more than the write's gap; an end costs it nothing.
+-- still bring, are at most `share` away from z. A grant widens the share by the write's gap; an end does not widen it.
 use Prim.Native.Nat.{ℕ, _+_, _≤_}
 use mathlib.Core.Bool.{Bool, true, false, cond}
 use mathlib.Core.List.{List, [], _∷_, _++_, map}
@@ -28,7 +28,7 @@ writesTo a (sets b) = same a b
 writesTo a (adds b) = same a b
 writesTo a (reads m) = false
 
--- A write's part in an attribute's share: its gap, if it writes that attribute.
+-- What a write adds to an attribute's share: its gap, if it writes that attribute.
 abbrev pub gapOn : Figures → Attribute → Kind → ℤ → ℕ
 gapOn f a k z = cond (writesTo a k) (gapBy f k z) 0
 
@@ -51,7 +51,7 @@ set-gap f a (sets b) z h =
 set-gap f a (adds b) z h = never-true (gapOn f a (adds b) z ≡ dist z (attr f a .value)) h
 set-gap f a (reads m) z h = never-true (0 ≡ dist z (attr f a .value)) h
 
--- A set that lands was within the share; an add takes as much from the sum of adds as it moves the value.
+-- A landed set's value was within the share before; an add moves the value by as much as it takes from the sum of adds.
 land-stands : (f : Figures) (z : ℤ) (share k : ℕ) (kind : Kind) (w : Claim) (a : Attribute) →
     dist z (attr f a .value) + (cond (addsTo a kind) (size (w .value)) 0 + k) ≤ share →
     (setsTo a kind ≡ true → dist z (w .value) + k ≤ share) →
@@ -79,6 +79,7 @@ land-stands f z share k (adds b) w =
 land-stands f z share k (reads m) w = λ a h set. omega arith
 
 module _ (t : Table) (a : Attribute) where
+  -- The distance from z to the present value v, and to each active set's value, is at most the share, even with all active adds on top.
   pub record Near (z : ℤ) (share : ℕ) (v : ℤ) (ws : List Claim) : Type 0 where
     pub stands : dist z v + addsOn t a ws ≤ share
     pub coming : All (λ w. setsTo a (kindOf t w) ≡ true → dist z (w .value) + addsOn t a ws ≤ share) ws
@@ -132,7 +133,7 @@ module _ (t : Table) (a : Attribute) where
   adds-shared f [] = omega arith
   adds-shared f (w ∷ ws) = omega (arith, adds-shared f ws, add-within f a (kindOf t w) (w .value))
 
-  -- A set of the list, with all adds of the list, is within the sum of the gaps.
+  -- The distance to an active set plus all active adds is at most the sum of the gaps.
   sets-shared : (f : Figures) (ws : List Claim) →
       All (λ w. setsTo a (kindOf t w) ≡ true → dist (attr f a .value) (w .value) + addsOn t a ws ≤ shareOf f ws) ws
   unfolding shareOf

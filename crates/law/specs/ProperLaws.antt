@@ -1,4 +1,4 @@
--- Laws of proper types: the kind of any method is proper, also of one that the type lacks; 01's disk type is proper.
+-- Laws of proper disk types: every method's kind is proper, an unknown method's too; 01's disk type is proper.
 use Prim.Native.Nat.{ℕ}
 use mathlib.Core.Bool.{true}
 use mathlib.Core.Path.{_≡_, refl}

@@ -1,5 +1,5 @@
--- Laws of the lists that an end and a wait leave: each is a list `xs ++ ys` against `xs ++ (c ∷ ys)`, so that each fact need
--- only be shown for that. And the order of the pass: a new claim at its place keeps it.
+-- Laws of the lists that an end and a wait leave. Each compares `xs ++ ys` with `xs ++ (c ∷ ys)`, so a fact need only be shown
+-- for that. And the pass's order: inserting a new claim keeps it.
 use Prim.Native.Nat.{ℕ, _≤_, _<_}
 use mathlib.Core.Bool.{Bool, true, false, cond, _||_}
 use mathlib.Core.List.{List, [], _∷_, _++_}
@@ -17,7 +17,7 @@ use Rattle.law.specs.Entries.{kindOf}
 
 -- ---- the end of a claim
 
--- No claim ends, or one does: then its kind lands, and the list is without it.
+-- Two cases: no claim ends, or one does; then its kind lands, and the list is without it.
 pub ended-cases : (t : Table) (P : List Claim → Figures → List Claim → Type 0) (f : Figures) (n : ℕ) →
     ((ws : List Claim) → P ws f ws) →
     ((xs : List Claim) (w : Claim) (ys : List Claim) → P (xs ++ (w ∷ ys)) (landBy f (kindOf t w) w) (xs ++ ys)) →
@@ -32,12 +32,12 @@ ended-cases t P f n none one (w ∷ ws) =
     go true h = one [] w ws
     go false h = h
 
--- What holds of all holds of all that are left.
+-- A fact of all claims is a fact of all that are left.
 pub all-without : (P : Claim → Type 0) (n : ℕ) (ws : List Claim) → All P ws → All P (without n ws)
 all-without P n [] h = tt
 all-without P n (w ∷ ws) h = by-test (All P) (hasTicket n w) (λ e. h .1) (λ e. (h .0, all-without P n ws (h .1)))
 
--- ---- a claim at its place in the pass's order
+-- ---- inserting a claim in the pass's order
 
 pub queue-cases : (P : List Claim → List Claim → Type 0) (c : Claim) →
     ((xs ys : List Claim) → P (xs ++ ys) (xs ++ (c ∷ ys))) → (ws : List Claim) → P ws (queue c ws)
@@ -52,7 +52,7 @@ all-queued P c h = queue-cases (λ vs us. All P vs → All P us) c (λ xs ys. al
 abbrev pub Before : Claim → Claim → Type 0
 Before x y = before x y ≡ true
 
--- The one before has at least the other's priority; and a higher priority puts it before.
+-- The claim before has at least the other's priority; and a higher priority puts a claim before the other.
 before-says : (x y : Claim) → Before x y → y .priority ≤ x .priority
 before-says x y h = go (ltb (y .priority) (x .priority)) (eqb (x .priority) (y .priority)) refl refl h
   where
@@ -65,7 +65,7 @@ before-says x y h = go (ltb (y .priority) (x .priority)) (eqb (x .priority) (y .
 before-tests : (x y : Claim) → y .priority < x .priority → Before x y
 before-tests x y h = rw (lt-ltb (y .priority) (x .priority) h) refl
 
--- A claim that came earlier and yet isn't before has a lower priority.
+-- A claim with a lower ticket that isn't before the other has a lower priority.
 before-fails : (w c : Claim) → w .ticket < c .ticket → before w c ≡ false → w .priority < c .priority
 before-fails w c h e = go (ltb (c .priority) (w .priority)) (eqb (w .priority) (c .priority)) refl refl e
   where
@@ -77,7 +77,7 @@ before-fails w c h e = go (ltb (c .priority) (w .priority)) (eqb (w .priority) (
         let unlike : w .priority ≡ c .priority → ⊥ = eqb-false (w .priority) (c .priority) k in
         omega (arith, ltb-false (c .priority) (w .priority) i)
 
--- The claim of the latest ticket goes behind all that are before it; so the order stands.
+-- A claim with the latest ticket is inserted behind all claims that are before it, so the list stays in order.
 pub queue-ordered : (c : Claim) (ws : List Claim) → All (λ w. w .ticket < c .ticket) ws → Pairs Before ws → Pairs Before (queue c ws)
 queue-ordered c [] h p = (tt, tt)
 queue-ordered c (w ∷ ws) h p =

@@ -1,5 +1,5 @@
--- Demand 3, first half, for one disk: from the grant of a reading to its release, what it was told and the present sum of the
--- same figures differ by no more than the limit it stated less the error those figures carried at that grant.
+-- Demand 3, first half, for one disk: from the grant of a reading to its release, its told sum and the present sum of the same
+-- figures differ by at most the limit it stated less the error those figures carried at that grant.
 use Prim.Native.Nat.{ℕ, _+_, _≤_}
 use mathlib.Core.List.{List, [], _∷_, _++_, append-assoc, append-nil}
 use mathlib.Core.Path.{_≡_, refl, sym, subst}
@@ -20,7 +20,7 @@ use Rattle.law.specs.Entries.{kindOf}
 use Rattle.law.specs.Readings.{present}
 
 module _ (t : Table) where
-  -- An answer that granted a reading, as long as that reading is active.
+  -- The bound of an answer that granted a reading, as long as that reading is active.
   abbrev pub Bounded : Core → Item → Type 0
   Bounded s i =
       i .code ≡ 0 →
@@ -43,7 +43,7 @@ module _ (t : Table) where
         borne = tt;
       })
 
-  -- A claim: the new one waits with the next ticket; then it is granted, or it stays.
+  -- A claim: the new claim waits with the next ticket; then it is granted, or stays waiting.
   kept-claim : (d : Disk) (q : Asked) (past : List Item) → KeptIn d past → After (λ e items. KeptIn e (past ++ items)) (claim t d q)
   unfolding KeptIn
   kept-claim d q past h =
@@ -57,7 +57,7 @@ module _ (t : Table) where
       Invariant t (d .core .figures) (d .core .active) vs (d .next + 1) past)
       (asked d q) (λ xs ys. kept-new t xs ys (asked d q) refl) (d .waiting) h))
 
-  -- A release: the claim ends, active or waiting; then each grant of the pass.
+  -- A release: the claim ends, active or waiting; then come the grants of the pass.
   kept-finish : (d : Disk) (now n : ℕ) (past : List Item) → KeptIn d past →
       Invariant t (finish t (at d now) n .figures) (finish t (at d now) n .active) (without n (d .waiting)) (d .next) past
   unfolding KeptIn finish

@@ -1,4 +1,4 @@
--- What a reading reads: sums over a mask, what it is told, and the error that the figures carry.
+-- What a reading gets: sums over a mask, the told sum, and the error that the figures carry.
 use Prim.Native.Nat.{ℕ, _+_}
 use mathlib.Core.Bool.{Bool, true, cond}
 use mathlib.Core.List.{[], _∷_}
@@ -6,14 +6,15 @@ use lib.IntN.{ℤ, pos, _+ℤ_}
 use Rattle.law.specs.Base.{allTrue}
 use Rattle.law.specs.Types.{Attribute, a0, a1, a2, within, Figures, attr}
 
--- The sum, over the attributes of a mask, of what each has.
+-- The sum of f over the attributes in the mask.
 abbrev pub sumRead : ℕ → (Attribute → ℕ) → ℕ
 sumRead m f = cond (within m a0) (f a0) 0 + cond (within m a1) (f a1) 0 + cond (within m a2) (f a2) 0
 
+-- The same for signed numbers.
 abbrev pub toldRead : ℕ → (Attribute → ℤ) → ℤ
 toldRead m f = cond (within m a0) (f a0) (pos 0) +ℤ cond (within m a1) (f a1) (pos 0) +ℤ cond (within m a2) (f a2) (pos 0)
 
--- A test of every attribute of a mask.
+-- The test p passes for every attribute in the mask.
 abbrev pub everyRead : ℕ → (Attribute → Bool) → Bool
 everyRead m p = allTrue (cond (within m a0) (p a0) true ∷ cond (within m a1) (p a1) true ∷ cond (within m a2) (p a2) true ∷ [])
 

@@ -1,4 +1,4 @@
--- Laws of the refusals: each is given exactly when its rule is the first of its list that holds, and changes nothing.
+-- Laws of the refusals: a number is given exactly if its rule is the first in the list that holds, and a refusal changes nothing.
 use Prim.Native.Nat.{ℕ, _≤_}
 use mathlib.Core.Bool.{Bool, true, false, cond, not, false≢true, true≢false}
 use mathlib.Core.List.{List, [], _∷_}
@@ -20,7 +20,7 @@ use Rattle.law.specs.Entries.{kindAt}
 
 -- ---- the first test that passes
 
--- The test of number n passes, and none before it does.
+-- The rule with number n passes its test, and no rule before it does.
 abbrev pub First : ℕ → List Rule → Type 0
 First n [] = ⊥
 First n (r ∷ rs) = ((r .when ≡ true) × (r .number ≡ n)) ⊎ ((r .when ≡ false) × First n rs)
@@ -40,7 +40,7 @@ refused-first n [] good f = absurd f
 refused-first n (r ∷ rs) good (inl h) = rw (h .0, h .1)
 refused-first n (r ∷ rs) good (inr h) = rw (h .0) (refused-first n rs good (h .1))
 
--- A refusal is given exactly by the first test that passes.
+-- The refusal is that of the first rule whose test passes.
 pub unless-exactly : (n : ℕ) (rs : List Rule) (good : Outcome) → Accepts good → (unless rs good ≡ refused n) ↔ First n rs
 unless-exactly n rs good a = (first-of n rs good a, refused-first n rs good)
 
@@ -49,25 +49,25 @@ pub accepted-otherwise : (rs : List Rule) (good : Outcome) → NoneHolds rs → 
 accepted-otherwise [] good none = refl
 accepted-otherwise (r ∷ rs) good none = rw (none .0) (accepted-otherwise rs good (none .1))
 
--- ---- each test says its rule
+-- ---- each test decides its sentence
 
--- 20.
+-- 20: the claim is not granted, and all waiting places are taken.
 pub says-full : (granted : Bool) (n : ℕ) → Says (cond granted false (leb places n)) ((granted ≡ false) × (places ≤ n))
 says-full true n = (λ e. absurd (false≢true e), λ h. absurd (true≢false (h .0)))
 says-full false n = (λ e. (refl, leb-true places n e), λ h. le-leb places n (h .1))
 
--- 21, of the active claims or of the waiting ones.
+-- 21: no claim of the list has the ticket.
 says-lacks : (n : ℕ) (ws : List Claim) → Says (not (anyOf (hasTicket n) ws)) (Lacks n ws)
 says-lacks n ws = says-none (hasTicket n) (λ w. says-not (hasTicket n w) (says-eq (w .ticket) n)) ws
 
--- Test by test, the same number, and the test says the rule.
+-- Rules and sentences in the same order: the same numbers, and each rule's test decides its sentence.
 infixr 20 _⊳_
 pub data Matches : List Rule → List Sentence → Type 1 where
   done : Matches [] []
   _⊳_ : {n : ℕ} {b : Bool} {P : Type 0} {rs : List Rule} {ps : List Sentence} → Says b P → Matches rs ps →
       Matches (record { number = n; when = b } ∷ rs) (record { number = n; says = P } ∷ ps)
 
--- Then the first test that passes is that of the first rule that holds.
+-- Then the first rule whose test passes has the number of the first sentence that holds.
 pub first-holds : (n : ℕ) {rs : List Rule} {ps : List Sentence} → Matches rs ps → First n rs ↔ FirstHolds n ps
 first-holds n done = (λ no. no, λ no. no)
 first-holds n (_⊳_ {b = b} {rs = rs} {ps = ps} s m) =
@@ -100,7 +100,7 @@ release-matches t d now n =
     (says-lacks n (d .core .active)) (says-lacks n (d .waiting))
     ⊳ done
 
--- ---- every request is refused exactly when a rule says so, with the number of the first that does
+-- ---- a request is refused exactly if a rule holds, with the number of the first that does
 
 pub open-refused-exactly : (n now l0 l1 : ℕ) → (openDisk now l0 l1 ≡ refused n) ↔ First n (openRefusals l0 l1)
 unfolding openDisk

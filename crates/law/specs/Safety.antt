@@ -1,5 +1,5 @@
--- Laws of safety: 000's two lemmas on how much imprecision the locking lets in, in its words, for a disk. Both are clauses of
--- Sound, so any accepted call keeps them, and they hold after any calls on an opened disk.
+-- Laws of safety: 000's two lemmas on how much imprecision the locking allows, in its words, for a disk. Both are clauses of
+-- Sound, so every accepted call keeps them, and they hold after any calls on an opened disk.
 use Prim.Native.Nat.{ℕ, _≤_}
 use mathlib.Core.List.{List}
 use mathlib.Core.Path.{_≡_, subst}
@@ -12,13 +12,13 @@ use Rattle.law.specs.Events.{After}
 use Rattle.law.specs.SoundKept.{ReadableCall, sound-kept, lived-sound}
 use Rattle.law.specs.Entries.{kindOf}
 
--- 000: "Object-Safety_o ≡ ∀ a ∈ o_A (a.ImpAmt ≤ data_ε_a)". Of a disk, ImpAmt is an attribute's amount and data_ε its limit.
+-- 000: "Object-Safety_o ≡ ∀ a ∈ o_A (a.ImpAmt ≤ data_ε_a)". On a disk, ImpAmt is an attribute's amount and data_ε its limit.
 abbrev pub ObjectSafe : Disk → Type 0
 ObjectSafe d = (a : Attribute) → attr (d .core .figures) a .amount ≤ attr (d .core .figures) a .limit
 
--- 000: "OT-Safety_t,o ≡ ∀ m ∈ (t_MI ⊓ o_M) ∀ r ∈ ReturnArgs(m) (r.ImpAmt ≤ importLimit_r)". On a disk the invocations are the
+-- 000: "OT-Safety_t,o ≡ ∀ m ∈ (t_MI ⊓ o_M) ∀ r ∈ ReturnArgs(m) (r.ImpAmt ≤ importLimit_r)". On a disk, the invocations are the
 -- active claims, those that return something are the readings, ImpAmt is a reading's amount and importLimit its stated limit.
--- 000's other half, of input arguments, has no limit: "regardless of the value of i.ImpAmt, OT safety is invariant".
+-- 000's other half, about input arguments, has no limit: "regardless of the value of i.ImpAmt, OT safety is invariant".
 abbrev pub ReadingSafe : Table → Disk → Type 0
 ReadingSafe t d = All (λ c. (m : ℕ) → kindOf t c ≡ reads m → c .amount ≤ c .error) (d .core .active)
 
@@ -36,8 +36,7 @@ module _ (t : Table) where
   after-sound P f (accepted d items) h = f d h
 
   module _ (proper : Proper t) where
-    -- 000's Lemma 1: "If the restricted semantic locking technique is used, then Object-Safety_o is invariant for every
-    -- object o."
+    -- 000's Lemma 1: "If the restricted semantic locking technique is used, then Object-Safety_o is invariant for every object o."
     pub object-safety : (now l0 l1 : ℕ) → l0 ≤ mostError → l1 ≤ mostError → (ks : List Call) → All ReadableCall ks →
         ObjectSafe (lived t (begun now l0 l1) ks .disk)
     object-safety now l0 l1 h0 h1 ks readable =

@@ -1,4 +1,4 @@
--- Laws of tests: what a test says, and what tests made of tests say.
+-- Laws of tests: which proposition a test decides, and which one a combination of tests decides.
 use Prim.Native.Nat.{ℕ, zero, suc, _≤_, _<_}
 use mathlib.Core.Bool.{Bool, true, false, cond, not, _&&_, _||_, false≢true, true≢false}
 use mathlib.Core.List.{List, [], _∷_}
@@ -14,7 +14,7 @@ use Rattle.law.specs.Lists.{and-left, and-right}
 abbrev pub Says : Bool → Type 0 → Type 0
 Says b P = (b ≡ true) ↔ P
 
--- What holds of both holds of what a test chooses.
+-- A fact of both branches is a fact of the branch that the test selects.
 pub by-test : {X : Type 0} (P : X → Type 0) (b : Bool) {x y : X} → (b ≡ true → P x) → (b ≡ false → P y) → P (cond b x y)
 by-test P true holds fails = holds refl
 by-test P false holds fails = fails refl
@@ -41,7 +41,7 @@ says-true = (λ e. tt, λ u. refl)
 pub says-false : Says false ⊥
 says-false = (false≢true, λ no. absurd no)
 
--- A test fails exactly if what it says does not hold.
+-- A test fails exactly if its proposition does not hold.
 pub fails : (b : Bool) {P : Type 0} → Says b P → (b ≡ false) ↔ (P → ⊥)
 fails true s = (λ e. absurd (true≢false e), λ no. absurd (no (s .0 refl)))
 fails false s = (λ e p. false≢true (s .1 p), λ no. refl)
@@ -80,7 +80,7 @@ says-four b c d e {P} {Q} {R} {S} s u v w =
     h : Says (b && allTrue (c ∷ d ∷ e ∷ [])) (P × (Q × R × S))
     h = says-and b (allTrue (c ∷ d ∷ e ∷ [])) s (says-three c d e u v w)
 
--- Any number of tests in a list, and the facts that they say.
+-- Any number of tests in a list, and the propositions they decide.
 infixr 20 _⊳_
 pub data Tests : List Bool → Type 0 → Type 1 where
   none : Tests [] (Unit {0})
@@ -90,7 +90,7 @@ pub says-tests : {bs : List Bool} {P : Type 0} → Tests bs P → Says (allTrue 
 says-tests none = says-true
 says-tests (_⊳_ {b = b} {bs = bs} s r) = says-and b (allTrue bs) s (says-tests r)
 
--- Every element, no element, every two.
+-- Tests of every element, of no element, of every two elements.
 pub says-every : {A : Type 0} {p : A → Bool} {P : A → Type 0} → ((x : A) → Says (p x) (P x)) → (xs : List A) →
     Says (everyOf p xs) (All P xs)
 says-every s [] = says-true
@@ -106,21 +106,21 @@ pub says-pairs : {A : Type 0} {r : A → A → Bool} {R : A → A → Type 0} �
 says-pairs s [] = says-true
 says-pairs {r = r} s (x ∷ xs) = says-and (everyOf (r x) xs) (everyPair r xs) (says-every (s x) xs) (says-pairs s xs)
 
--- A test that says itself, and one that says that another fails.
+-- A test decides that it passes; its negation decides that it fails.
 pub says-self : (b : Bool) → Says b (b ≡ true)
 says-self b = (λ e. e, λ e. e)
 
 pub says-fails : (b : Bool) → Says (not b) (b ≡ false)
 says-fails b = (not-true b, λ e. ap not e)
 
--- What passes for every element, and for the default, passes at every place.
+-- A test that every element and the default pass is passed at every index.
 module _ {A : Type 0} (p : A → Bool) (default : A) (fits : p default ≡ true) where
   pub every-at : (xs : List A) → everyOf p xs ≡ true → (k : ℕ) → p (getD xs k default) ≡ true
   every-at [] h k = fits
   every-at (x ∷ xs) h zero = and-left (p x) (everyOf p xs) h
   every-at (x ∷ xs) h (suc k) = every-at xs (and-right (p x) (everyOf p xs) h) k
 
--- The facts of a row and of `All`, the last of which is tt, written one after the other.
+-- Writes the facts of a `Tests` or `All` one after the other; the last one is tt.
 infixr 10 _and_
 pub _and_ : {A B : Type 0} → A → B → A × B
 a and b = (a, b)

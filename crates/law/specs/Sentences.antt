@@ -18,7 +18,7 @@ pub record Sentence : Type 1 where
   pub number : ℕ
   pub says : Type 0
 
--- The sentence of number n holds, and none before it does.
+-- Sentence n holds, and no sentence before it does.
 abbrev pub FirstHolds : ℕ → List Sentence → Type 0
 FirstHolds n [] = ⊥
 FirstHolds n (r ∷ rs) = (r .says × (r .number ≡ n)) ⊎ ((r .says → ⊥) × FirstHolds n rs)
@@ -31,8 +31,8 @@ Lacks n ws = All (λ w. w .ticket ≡ n → ⊥) ws
 abbrev pub openSentences : ℕ → ℕ → List Sentence
 openSentences l0 l1 = record { number = 17; says = (l0 ≤ 2_000_000_000) × (l1 ≤ 2_000_000_000) → ⊥ } ∷ []
 
--- A claim: now below the disk's clock; no such method; a field out of range; a write's own error over its attribute's
--- limit; no ticket left; it would wait while 8 wait.
+-- A claim: now below the disk's clock; an unknown method; a field out of range; a write's own error over its attribute's limit;
+-- no ticket left; it would wait while 8 wait.
 abbrev pub claimSentences : Table → Disk → Asked → List Sentence
 claimSentences t d q =
     record { number = 15; says = q .now < d .core .clock }

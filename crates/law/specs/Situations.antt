@@ -1,5 +1,5 @@
--- 01's situations K1 to K12 and its printed run, by computation. Own errors 0, priorities equal, used and promised limit
--- 1,000 unless said.
+-- 01's situations K1 to K12 and its printed run, checked by computation. Own errors 0, priorities
+-- equal, used and promised limit 1,000 unless said.
 use mathlib.Core.Bool.{true}
 use mathlib.Core.List.{List, [], _∷_}
 use mathlib.Core.Path.{_≡_, refl}
@@ -10,8 +10,7 @@ use Rattle.law.specs.Steps.{reportUsed, addPromised, setPromised, readUs
 
 unfoldable pub situations : List Situation
 situations =
-    -- K1 (000's Speed example, in tenths) used limit 10, ReportUsed 100 active: ReportUsed 106, own error 3: granted,
-    -- amount 9.
+    -- K1 (000's Speed example, in tenths) used limit 10, ReportUsed 100 active: ReportUsed 106, own error 3: granted, amount 9.
     opening 0 10 1_000
     (claims (reportUsed 100 0) ⇒ grants (write 1 0)
     ∷ claims (reportUsed 106 3) ⇒ grants (write 2 9)
@@ -81,8 +80,7 @@ situations =
     ∷ releases 0 1 ⇒ ends 1 []
     ∷ claims (addPromised (pos 2) 0) ⇒ waits 2
     ∷ [])
-    -- K11 used amount 5: ReadUsed, limit 4, waits; ReportUsed of lower priority is granted; its release grants the
-    -- reading, amount 0.
+    -- K11 used amount 5: ReadUsed, limit 4, waits; ReportUsed of lower priority is granted; its release grants the reading, amount 0.
     ∷ usual
     (claims (reportUsed 40 5) ⇒ grants (write 1 5)
     ∷ releases 0 1 ⇒ ends 1 []

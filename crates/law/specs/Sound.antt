@@ -24,7 +24,7 @@ eachAttribute p = allTrue (p a0 ∷ p a1 ∷ p a2 ∷ [])
 abbrev pub bare : Claim → Bool
 bare c = allTrue (eqb (size (c .told)) 0 ∷ eqb (c .amount) 0 ∷ [])
 
--- An active write carries no told and no amount.
+-- An active write has told and amount 0.
 abbrev pub bareBy : Kind → Claim → Bool
 bareBy (sets a) c = bare c
 bareBy (adds a) c = bare c
@@ -42,11 +42,11 @@ limitFits a0 n = leb n mostError
 limitFits a1 n = leb n mostError
 limitFits a2 n = eqb n 0
 
--- Priority and fresh flag are such as a record can hold.
+-- Priority and fresh flag are in the range that a record can hold.
 abbrev pub formed : Claim → Bool
 formed c = allTrue (leb (c .priority) mostPriority ∷ leb (c .flag) mostFlag ∷ [])
 
--- |value| of a metric attribute with the |d| of its active adds is in range.
+-- n, a metric attribute's |value| plus the |d| of its active adds, is in range.
 abbrev pub sumFits : Attribute → ℕ → Bool
 sumFits a0 n = leb n mostValue
 sumFits a1 n = leb n mostValue
@@ -96,7 +96,7 @@ module _ (t : Table) where
 
   unfoldable pub soundTests : Disk → List Bool
   soundTests d =
-      -- the part decodes: of this a disk shows that told and amount stand only in an active reading
+      -- the part decodes; of this clause only one thing concerns a disk: told and amount are 0 except in an active reading
       everyOf (λ c. bareBy (kindOf t c) c) (d .core .active)
       ∷ everyOf bare (d .waiting)
       -- ranges hold

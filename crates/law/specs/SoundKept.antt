@@ -1,5 +1,5 @@
 -- Laws of soundness: an opened disk is sound, and no accepted call leaves an unsound one. A call is a later clock, then a new
--- claim or an end, then grants, each of which keeps what FitLaws says; the waiting claims' number and order come besides.
+-- claim or an end, then grants; each keeps `Fit` (FitLaws). The number and order of the waiting claims are shown here.
 use Prim.Native.Nat.{ℕ, _+_, _≤_, _<_}
 use mathlib.Core.Bool.{true, false}
 use mathlib.Core.List.{List, [], _∷_, _++_}
@@ -38,11 +38,11 @@ abbrev pub ReadableCall : Call → Type 0
 ReadableCall (claims q) = Readable q
 ReadableCall (releases now n) = Unit {0}
 
--- A disk of these parts.
+-- The disk with this core, waiting claims and next ticket.
 abbrev diskWith : Core → List Claim → ℕ → Disk
 diskWith s ws next = record { core = s; waiting = ws; next = next }
 
--- An attribute of an opened disk.
+-- The attributes of an opened disk are in range.
 zero-fits : (a : Attribute) → ValueFits a (pos 0)
 zero-fits a0 = omega arith
 zero-fits a1 = omega arith
@@ -59,7 +59,7 @@ new-fits a now most h =
     }
 
 module _ (t : Table) where
-  -- ---- Sound is Fit, with few waiting and these in order
+  -- ---- Sound is Fit, with at most 8 waiting claims in the pass's order
 
   all-fit : (f : Figures) (now : ℕ) (cs : List Claim) → All Formed cs → All (λ c. 1 ≤ c .ticket) cs → All (Passes t f now) cs →
       All (ClaimFits t f now) cs
@@ -139,11 +139,11 @@ module _ (t : Table) where
           all-say Fits P f (claimsOn d)
           (all-append Fits (d .core .active) (d .waiting) (h .claims .active) (h .claims .waiting))
 
-  -- The disk at a later second.
+  -- The disk with its clock set to a later second.
   pub fit-at : {d : Disk} (now : ℕ) → d .core .clock ≤ now → Sound t d → Fit t (at d now) (d .waiting) (d .next)
   fit-at now l h = fit-clock t now l (sound-fit h)
 
-  -- A waiting claim fewer, and whatever state keeps the rest.
+  -- A disk without one waiting claim is sound, if its new state still fits.
   sound-less : {s u : Core} {next : ℕ} (xs : List Claim) (c : Claim) (ys : List Claim) →
       (Fit t s (xs ++ (c ∷ ys)) next → Fit t u (xs ++ ys) next) →
       Sound t (diskWith s (xs ++ (c ∷ ys)) next) → Sound t (diskWith u (xs ++ ys) next)
@@ -193,7 +193,7 @@ module _ (t : Table) where
         unrefused t (d .core .figures) (q .now) (asked d q) .0
         (ok .1 .0 and ok .1 .1 .0 and ok .1 .1 .1 .0 and tt)
 
-    -- The new claim is put among those that wait, at whatever place.
+    -- The new claim is put among the waiting claims, at any position.
     fit-asked : (xs ys : List Claim) → Fit t (at d (q .now)) (xs ++ ys) (d .next) →
         Fit t (at d (q .now)) (xs ++ (asked d q ∷ ys)) (d .next + 1)
     fit-asked xs ys =

@@ -1,4 +1,4 @@
--- Laws of soundness: the test of 01's "Sound" says what the proposition says, clause by clause.
+-- Laws of soundness: the test `sound` decides the proposition `Sound`, clause by clause.
 use Prim.Native.Nat.{ℕ, _+_}
 use mathlib.Core.Bool.{Bool, not}
 use mathlib.Core.Logic.{_↔_}
@@ -64,7 +64,7 @@ says-formed c =
     says-two (leb (c .priority) mostPriority) (leb (c .flag) mostFlag) (says-le (c .priority) mostPriority) (says-le (c .flag) mostFlag)
 
 module _ (t : Table) (f : Figures) (now : ℕ) (c : Claim) where
-  -- None of 16 to 18 refuses a claim that passes them.
+  -- A claim passes exactly if none of 16 to 18 refuses it.
   pub unrefused : NoneHolds (claimRefusals t f now c) ↔ Passes t f now c
   unrefused = (
     λ h.

@@ -1,4 +1,4 @@
--- How a situation is written down: requests, the steps from an open, what is expected of each, and the test of it.
+-- How a situation is written down: requests, the steps after an open, the expected result of each step, and the test of a situation.
 use Prim.Native.Nat.{ℕ}
 use mathlib.Core.Bool.{Bool, true, false, _&&_}
 use mathlib.Core.List.{List, [], _∷_}
@@ -48,7 +48,7 @@ readState stated = asks 6 (pos 0) stated
 abbrev pub minus : ℕ → ℤ
 minus n = negℤ (pos n)
 
--- The same request, but of another priority; at another second; measured at one; for fresh figures.
+-- The same request with another priority; at another second; measured at second n; asking for fresh figures.
 abbrev pub priority : ℕ → Asked → Asked
 priority p q = request (q .now) (q .method) p (q .flag) (q .measured) (q .value) (q .error)
 
@@ -80,22 +80,22 @@ reading n told amount = record { code = 0; ticket = n; told = told; amount = amo
 abbrev pub only : ℕ → ℕ → Line
 only code n = record { code = code; ticket = n; told = pos 0; amount = 0 }
 
--- What a call comes to: a grant, a wait, a release with the grants of its pass in order, a refusal.
+-- The expected result of a call: a grant, a wait, a release with the grants of its pass in order, a refusal.
 pub data Expected : Type 0 where
   grants : Line → Expected
   waits : ℕ → Expected
   ends : ℕ → List Line → Expected
   refuses : ℕ → Expected
 
--- A step of a situation: a call and what it comes to; or what the active claim of a ticket then has, its told sum and its
--- amount; or the error that the figures carried at the grant of a ticket.
+-- A step of a situation: a call with its expected result; or `bears n told amount`, the active claim with ticket n now has this
+-- told sum and amount; or `carries n error`, the figures carried this error when ticket n was granted.
 infix 70 _⇒_
 pub data Step : Type 0 where
   _⇒_ : Call → Expected → Step
   bears : ℕ → ℤ → ℕ → Step
   carries : ℕ → ℕ → Step
 
--- A disk opened at a second with its limits of used and promised, and the steps from there.
+-- A disk opened at a second with limits of used and promised, and the steps that follow.
 pub data Situation : Type 0 where
   opening : ℕ → ℕ → ℕ → List Step → Situation
 
@@ -105,7 +105,7 @@ usual steps = opening 0 1_000 1_000 steps
 
 -- ---- the test of a situation
 
--- An item shows a line.
+-- The item shows the line.
 abbrev shows : Line → Item → Bool
 shows l i =
     allTrue
@@ -135,14 +135,14 @@ meets (ends n ls) o = answers (only 2 n ∷ ls) o
 meets (refuses n) (refused m) = eqb m n
 meets (refuses n) (accepted d items) = false
 
--- The active claim of ticket n has that told sum and that amount.
+-- The active claim with ticket n has that told sum and amount.
 abbrev bearing : History → ℕ → ℤ → ℕ → Bool
 bearing h n told amount =
     anyOf
     (λ w. allTrue (eqb (w .ticket) n ∷ eqb (dist (w .told) told) 0 ∷ eqb (w .amount) amount ∷ []))
     (h .disk .core .active)
 
--- The grant of ticket n was given while the figures carried that error.
+-- The figures carried that error when ticket n was granted.
 abbrev carrying : History → ℕ → ℕ → Bool
 carrying h n error = anyOf (λ i. allTrue (eqb (i .code) 0 ∷ eqb (i .ticket) n ∷ eqb (i .carried) error ∷ [])) (h .past)
 

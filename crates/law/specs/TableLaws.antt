@@ -1,4 +1,4 @@
--- Laws of the disk's table: the constant of 49 entries is the one that the rule by kinds gives, and it is symmetric.
+-- Laws of the disk's table: the constant of 49 entries equals the rule by kinds, and it is symmetric.
 use Prim.Native.Nat.{ℕ, zero, suc, _+_, _<_}
 use native.Mathlib.Nat.{le-of-suc-le-suc, not-suc-le-zero, zero-add}
 use native.Mathlib.Omega.{arith}
@@ -12,7 +12,7 @@ use Rattle.law.specs.Types.{reads}
 use Rattle.law.specs.DiskType.{diskTable, diskEntries}
 use Rattle.law.specs.Entries.{entryBy, kindAt}
 
--- The entry of an active method and a requested one, looked up.
+-- The entry of an active and a requested method, looked up in the constant.
 abbrev pub entryAt : ℕ → ℕ → Entry
 entryAt active requested = getD (getD diskEntries active []) requested A
 
@@ -23,11 +23,11 @@ disk-methods = refl
 
 -- ---- the two computed tests of the whole table
 
--- A row for each active method, in it an entry for each requested one, by their kinds.
+-- The table by the rule: a row for each active method, in it an entry for each requested one.
 abbrev pub byKinds : List (List Entry)
 byKinds = map (λ active. map (entryBy active) (diskTable .kinds)) (diskTable .kinds)
 
--- The table follows the rule by kinds, for all 49 pairs.
+-- The constant equals the rule by kinds, for all 49 pairs.
 pub table-by-kinds : diskEntries ≡ byKinds
 unfolding diskEntries diskTable hasBit
 table-by-kinds = refl
@@ -55,13 +55,13 @@ getD-map f [] i x y h = absurd (not-suc-le-zero h)
 getD-map f (z ∷ zs) zero x y h = refl
 getD-map f (z ∷ zs) (suc i) x y h = getD-map f zs i x y (le-of-suc-le-suc h)
 
--- Number i of those from k on is k + i.
+-- The number at index i is k + i.
 number-at : (k n i : ℕ) → i < n → getD (numbers k n) i 0 ≡ k + i
 number-at k zero i h = absurd (not-suc-le-zero h)
 number-at k (suc n) zero h = omega arith
 number-at k (suc n) (suc i) h = omega (arith, number-at (suc k) n i (le-of-suc-le-suc h))
 
--- Each entry is the one that the rule gives for the kinds of its two methods.
+-- Each entry is what the rule gives for the kinds of its two methods.
 pub disk-entry : (m n : ℕ) → m < 7 → n < 7 → entryAt m n ≡ entryBy (kindAt diskTable m) (kindAt diskTable n)
 unfolding diskTable
 disk-entry m n hm hn =
@@ -70,7 +70,7 @@ disk-entry m n hm hn =
     (getD-map (λ active. map (entryBy active) (diskTable .kinds)) (diskTable .kinds) m (reads 0) [] hm)
     ∙ getD-map (entryBy (kindAt diskTable m)) (diskTable .kinds) n (reads 0) A hn
 
--- Which of the two methods is active and which requested makes no difference.
+-- It makes no difference which of the two methods is active and which is requested.
 pub disk-symmetric : (m n : ℕ) → m < 7 → n < 7 → entryAt m n ≡ entryAt n m
 unfolding diskEntries
 disk-symmetric m n hm hn =

@@ -1,5 +1,5 @@
--- Laws of the tickets on a disk: each claim has one of its own, below the next. A new claim takes the next; grants and ends
--- move claims and change no ticket.
+-- Laws of the tickets on a disk: each claim has its own, below the next. A new claim takes the next; grants and ends move
+-- claims but change no ticket.
 use Prim.Native.Nat.{ℕ, _+_, _<_}
 use mathlib.Core.List.{List, [], _∷_, _++_, map}
 use mathlib.Core.Path.{_≡_, sym}
@@ -10,11 +10,11 @@ use Rattle.law.specs.Base.{All, Pairs, Cross}
 use Rattle.law.specs.Lists.{all-say, all-both, all-there, all-less, pairs-less, all-more, pairs-more, pairs-around, all-grown, pairs-grown}
 use Rattle.law.specs.Granting.{putTold}
 
--- Two claims have two tickets.
+-- The two claims have different tickets.
 abbrev pub Apart : Claim → Claim → Type 0
 Apart x y = x .ticket ≡ y .ticket → ⊥
 
--- The active claims vs and the waiting claims ws.
+-- The tickets of the active claims vs and the waiting claims ws are below next and all different.
 pub record Ticketed (next : ℕ) (vs ws : List Claim) : Type 0 where
   pub belowActive : All (λ c. c .ticket < next) vs
   pub belowWaiting : All (λ c. c .ticket < next) ws
@@ -22,7 +22,7 @@ pub record Ticketed (next : ℕ) (vs ws : List Claim) : Type 0 where
   pub apartWaiting : Pairs Apart ws
   pub apartBoth : Cross Apart vs ws
 
--- An active claim fewer.
+-- Without one active claim.
 pub ticketed-end : {next : ℕ} (xs : List Claim) (w : Claim) (ys : List Claim) {ws : List Claim} →
     Ticketed next (xs ++ (w ∷ ys)) ws → Ticketed next (xs ++ ys) ws
 ticketed-end xs w ys h =
@@ -34,7 +34,7 @@ ticketed-end xs w ys h =
       apartBoth = all-less _ xs w ys (h .apartBoth);
     }
 
--- A waiting claim fewer.
+-- Without one waiting claim.
 pub ticketed-leave : {next : ℕ} {vs : List Claim} (xs : List Claim) (w : Claim) (ys : List Claim) →
     Ticketed next vs (xs ++ (w ∷ ys)) → Ticketed next vs (xs ++ ys)
 ticketed-leave {vs} xs w ys h =
@@ -46,7 +46,7 @@ ticketed-leave {vs} xs w ys h =
       apartBoth = all-say (λ x. All (Apart x) (xs ++ (w ∷ ys))) _ (λ x. all-less (Apart x) xs w ys) vs (h .apartBoth);
     }
 
--- A new claim, of the next ticket: all others' are below.
+-- With a new claim that takes the next ticket; all others are below it.
 pub ticketed-new : {next : ℕ} {vs : List Claim} (xs ys : List Claim) (c : Claim) → c .ticket ≡ next →
     Ticketed next vs (xs ++ ys) → Ticketed (next + 1) vs (xs ++ (c ∷ ys))
 ticketed-new {next} {vs} xs ys c e h =
@@ -70,7 +70,7 @@ ticketed-new {next} {vs} xs ys c e h =
     unlike : (x : Claim) → x .ticket < next → Apart x c
     unlike x l i = omega arith
 
--- A waiting claim becomes active, and others' amounts grow.
+-- A waiting claim becomes active, and other claims' amounts grow.
 pub ticketed-grant : {next : ℕ} {vs : List Claim} (xs : List Claim) (c : Claim) (ys : List Claim) (told : ℤ) (amount : ℕ)
     (growth : Claim → ℕ) → Ticketed next vs (xs ++ (c ∷ ys)) →
     Ticketed next (map (λ w. putTold w (w .told) (w .amount + growth w)) vs ++ (putTold c told amount ∷ [])) (xs ++ ys)

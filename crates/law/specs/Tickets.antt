@@ -1,4 +1,4 @@
--- Laws of tickets: a granted or waiting claim takes the next one, a release takes none, so no ticket is given twice.
+-- Laws of tickets: a granted or waiting claim takes the next ticket and a release takes none, so no ticket is given twice.
 use Prim.Native.Nat.{ℕ, _+_, _≤_, _<_}
 use mathlib.Core.List.{List, [], _∷_}
 use mathlib.Core.Path.{_≡_, refl, subst}
@@ -45,7 +45,7 @@ module _ (t : Table) where
           After (λ e items. h .disk .next ≤ e .next) (answered t (g .disk) k)
       kept g k u low = more g (answered t (g .disk) k) low (step g k)
 
-  -- Of two accepted claims on a disk, whatever calls lie between them, the later one has the higher ticket.
+  -- Of two accepted claims on a disk, with any calls between them, the later one has the higher ticket.
   pub tickets-once : (h : History) (q q′ : Asked) (ks : List Call) (d e : Disk) (is js : List Item) →
       claim t (h .disk) q ≡ accepted d is →
       claim t (lived t (after h (accepted d is)) ks .disk) q′ ≡ accepted e js →

@@ -11,26 +11,26 @@ use Rattle.law.specs.declared.Claim.{Claim}
 
 -- ---- 01's numbers
 
--- Values of attributes 0 and 1 and amounts to add lie within this, either way.
+-- Values of attributes 0 and 1, and amounts to add, lie within ± this.
 abbrev pub mostValue : ℕ
 mostValue = 1_000_000_000
 
--- Limits, own errors, amounts and stated limits are 0 to this; a told sum lies within it, either way.
+-- Limits, own errors, amounts and stated limits run from 0 to this; a told sum lies within ± this.
 abbrev pub mostError : ℕ
 mostError = 2_000_000_000
 
--- A state is a code 0 to this.
+-- A state is a code from 0 to this.
 abbrev pub mostState : ℕ
 mostState = 255
 
--- A record's priority and fresh flag are 0 to these.
+-- A record's priority runs from 0 to 255, its fresh flag from 0 to 1.
 abbrev pub mostPriority : ℕ
 mostPriority = 255
 
 abbrev pub mostFlag : ℕ
 mostFlag = 1
 
--- At most so many claims of a disk are active, and at most so many wait.
+-- At most this many claims of a disk are active, and at most this many wait.
 abbrev pub places : ℕ
 places = 8
 
@@ -40,7 +40,7 @@ lastTicket = 999_999
 
 -- ---- the type of a disk
 
--- The three attributes. A disk's: 0 used and 1 promised, which are metric, and 2 state, which is not.
+-- The three attributes. On 01's disk, a0 is used and a1 is promised, both metric; a2 is the state, which is not.
 pub data Attribute : Type 0 where
   a0 a1 a2 : Attribute
 
@@ -66,23 +66,23 @@ same a2 a0 = false
 same a2 a1 = false
 same a2 a2 = true
 
--- The kind of a method: it sets one attribute, adds to one, or reads those of a mask with one bit for each attribute. (A
--- write's mask has the one bit of its attribute.)
+-- The kind of a method: it sets one attribute, adds to one, or reads the attributes in a mask (one bit for each attribute). A
+-- write's own mask is the one bit of its attribute.
 pub data Kind : Type 0 where
   sets adds : Attribute → Kind
   reads : ℕ → Kind
 
--- An attribute is in a mask.
+-- Whether attribute a is in the mask.
 abbrev pub within : ℕ → Attribute → Bool
 within mask a = hasBit mask (bitOf a)
 
--- A type of disk: the kind of each method, and how many seconds an attribute is valid under a fresh flag.
+-- A disk type: the kind of each method, and `valid flag a`, the seconds for which attribute a is fresh to a reading with that flag.
 pub record Table : Type 0 where
   pub kinds : List Kind
   pub valid : ℕ → Attribute → ℕ
 
--- The kinds that a type may have: sets of one attribute, adds to one metric attribute, readings of metric attributes or of
--- the state: a reading of the state reads nothing else.
+-- The kinds a proper disk type may have: any set, an add to a metric attribute, a reading of
+-- metric attributes, a reading of the state alone.
 abbrev pub properKind : Kind → Bool
 properKind (sets a) = true
 properKind (adds a) = metric a
@@ -103,20 +103,19 @@ attr f a0 = f .f0
 attr f a1 = f .f1
 attr f a2 = f .f2
 
--- The figures with another attribute a.
+-- The figures with attribute a replaced by x.
 abbrev pub putAttr : Figures → Attribute → Attr → Figures
 putAttr f a0 x = record { f0 = x; f1 = f .f1; f2 = f .f2 }
 putAttr f a1 x = record { f0 = f .f0; f1 = x; f2 = f .f2 }
 putAttr f a2 x = record { f0 = f .f0; f1 = f .f1; f2 = x }
 
--- A disk as a decision sees it: its clock, which is set to now before a decision, the figures, and the active claims in the
--- order of their grants.
+-- What a decision looks at: the clock (set to now before the decision), the figures, and the active claims in the order of their grants.
 pub record Core : Type 0 where
   pub clock : ℕ
   pub figures : Figures
   pub active : List Claim
 
--- A disk: that, the waiting claims in the pass's order, and the next ticket.
+-- A disk: its core, the waiting claims in the pass's order, and the next ticket.
 pub record Disk : Type 0 where
   pub core : Core
   pub waiting : List Claim
@@ -124,7 +123,7 @@ pub record Disk : Type 0 where
 
 -- ---- requests and answers
 
--- The fields of a claim's record. What the record's bytes can hold is kept to before (refusal 10): a priority to 255, a flag to 1.
+-- The fields of a claim's record. A priority up to 255 and a flag up to 1 are ensured earlier, by the record's bytes and refusal 10.
 pub record Asked : Type 0 where
   pub now : ℕ
   pub method : ℕ
@@ -134,7 +133,7 @@ pub record Asked : Type 0 where
   pub value : ℤ
   pub error : ℕ
 
--- A request asked as a claim with that ticket.
+-- The request q as a claim with ticket n.
 abbrev pub claimOf : Asked → ℕ → Claim
 claimOf q n =
     record {
@@ -149,8 +148,8 @@ claimOf q n =
       amount = 0;
     }
 
--- An answer item. The first four numbers go into the answer buffer; `carried` is the error that the figures read carried
--- at that grant, of which demand 3 speaks, and 0 in an item that grants no reading.
+-- An answer item. The first four numbers go into the answer buffer. `carried` does not: it is the error that the figures read
+-- carried when a reading was granted, which demand 3 needs; it is 0 in every other item.
 pub record Item : Type 0 where
   pub code : ℕ
   pub ticket : ℕ
@@ -158,7 +157,7 @@ pub record Item : Type 0 where
   pub amount : ℕ
   pub carried : ℕ
 
--- What a call comes to: a refusal with its number, or the new disk and the answer items, the call's own first.
+-- The outcome of a call: a refusal with its number, or the new disk and the answer items, the call's own first.
 pub data Outcome : Type 0 where
   refused : ℕ → Outcome
   accepted : Disk → List Item → Outcome

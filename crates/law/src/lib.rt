@@ -1,8 +1,8 @@
-// The law of one disk. Its rules are definitions, in specs/; here stand only the types that the
-// rules and the code above them share.
+// The law of one disk. The rules are definitions in specs/; this file has only the types that the
+// rules share with the code above them.
 
-// An attribute of a disk: its value, its stamp, the amount of error that it carries, and the limit of
-// that amount.
+// An attribute of a disk: its value, its stamp, the amount of error it carries, and the limit of that
+// amount.
 pub struct Attr {
     pub value: i32,
     pub stamp: u32,
@@ -10,8 +10,8 @@ pub struct Attr {
     pub limit: u32,
 }
 
-// A claim on a method of a disk. `error` is a write's own error and a reading's stated limit;
-// `told` and `amount` are an active reading's, and 0 in every other claim.
+// A claim on a method of a disk. `error` is a write's own error or a reading's stated limit;
+// `told` and `amount` are 0 except in an active reading.
 pub struct Claim {
     pub ticket: u32,
     pub method: u32,
