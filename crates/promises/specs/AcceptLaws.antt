@@ -1,5 +1,5 @@
--- Laws of accepted calls: none of the sentences holds exactly if the code is at most 3, and then it goes by the record's kind and the
--- decision.
+-- Laws of accepted calls: the code is at most 3 exactly if none of the sentences holds, and then
+-- it is given by the record's kind and the decision.
 use Prim.Native.Nat.{ℕ, _≤_}
 use mathlib.Core.Bool.{Bool, true, false, cond}
 use mathlib.Core.List.{List, [], _∷_}
@@ -41,7 +41,7 @@ first-none [] h = tt
 first-none (s ∷ ss) h =
     let fails : s .says → ⊥ = λ p. h (s .number) (inl (p, refl)) in (fails, first-none ss (λ n f. h n (inr (fails, f))))
 
--- Where none holds, the record is well formed.
+-- If none holds, the record is well formed.
 none-formed : (b r a : List ℕ) → NoneHold (sentences b r a) → WellFormed r
 none-formed b r a h = go (wellFormed r) refl
   where
@@ -67,13 +67,13 @@ says-grants s waiting c =
 
 -- ---- codes of at most 3
 
--- No test of the first six refuses.
+-- None of the tests for 9 to 14 refuses.
 first-rest : (ts : List Rule) (x : ℕ) → All (λ t. 9 ≤ t .number) ts → firstOf ts x ≤ 3 → firstOf ts x ≡ x
 first-rest [] x n h = refl
 first-rest (t ∷ ts) x n h =
     by-test (λ y. y ≤ 3 → y ≡ x) (t .when) (λ e k. absurd (omega (arith, k, n .0))) (λ e. first-rest ts x (n .1)) h
 
--- No rule of the law does.
+-- None of the law's rules refuses.
 unless-code : (rs : List Rule) (good : Outcome) → outcomeCode (unless rs good) ≤ 3 →
     outcomeCode (unless rs good) ≡ outcomeCode good
 unless-code rs good =
@@ -91,7 +91,7 @@ release-code d now n h =
     unless-code (releaseRefusals diskTable d now n)
     (accepted (withEnd diskTable d now n) (item 2 n ∷ letGo diskTable d now n .items)) h
 
--- Granted or waits.
+-- The code of a claim: granted or waits.
 abbrev claimCode : Bool → ℕ
 claimCode true = 0
 claimCode false = 1
@@ -106,13 +106,13 @@ claim-code d q h = unless-code (refusals diskTable d q) (decided diskTable d q) 
     go true = refl
     go false = refl
 
--- The law's outcome of a call, by the kind of its record.
+-- The code of the law's outcome, by the kind of the record.
 abbrev restOf : ℕ → Outcome → LawDisk → List ℕ → ℕ
 restOf k o d r =
     cond (eqb k 1) (outcomeCode o)
     (outcomeCode (answered diskTable d (cond (eqb k 2) (claims (askedIn r)) (releases (nowOf r) (wordAt r 12)))))
 
--- ---- what an accepted call ends in
+-- ---- how an accepted call ends
 
 pub data Ends (b r : List ℕ) (code : ℕ) : Type 0 where
   opens : kindByte r ≡ 1 → code ≡ 3 → Ends b r code

@@ -1,4 +1,4 @@
--- Laws of claims: a grant, an end, a wait and a pass change no claim but its told and amount, so each stays as its record asked.
+-- Laws of claims: grants, ends, waits and passes change nothing in a claim but told and amount, so each claim stays as its record asked.
 use Prim.Native.Nat.{ℕ, _<_}
 use mathlib.Core.Bool.{Bool, true, false, cond}
 use mathlib.Core.List.{List, [], _∷_, _++_, append-assoc, append-nil}
@@ -33,7 +33,7 @@ use Rattle.promises.specs.TurnLaws.{Turn, stays, opens, serves, turn}
 -- ---- one call on one disk
 
 module _ (past : List Claimed) where
-  -- They all are as asked.
+  -- All these claims are as asked.
   abbrev Asks : List Claim → Type 0
   Asks ws = All (AsAsked past) ws
 
@@ -41,7 +41,7 @@ module _ (past : List Claimed) where
   unfolding grant
   grant-asked s c q h = all-grown (raised diskTable s c) (s .active) (asGranted diskTable s c) (AsAsked past) h q
 
-  -- A release and its pass ask for nothing new.
+  -- A release and its pass bring no new claim.
   end-asked : (d : LawDisk) (now n : ℕ) → Asks (claimsOn d) → Asks (claimsOn (withEnd diskTable d now n))
   unfolding finish
   end-asked d now n h =
@@ -56,13 +56,13 @@ module _ (past : List Claimed) where
       ) in
       all-append (AsAsked past) (letGo diskTable d now n .core .active) (letGo diskTable d now n .ahead) (p .0) (p .1)
 
--- Those of before, and one more.
+-- Claims as asked stay so when more is claimed.
 more-asked : (past new : List Claimed) (ws : List Claim) → All (AsAsked past) ws → All (AsAsked (past ++ new)) ws
 more-asked past new ws h =
     all-say (AsAsked past) (AsAsked (past ++ new))
     (λ c. some-left (λ x. asAsked c ≡ claimOf (askedIn (x .asks)) (x .ticket)) past new) ws h
 
--- A claim asks for itself, with the next ticket; a release for nothing.
+-- A claim adds itself, with the next ticket; a release adds nothing.
 module _ (past : List Claimed) (d : LawDisk) (r : List ℕ) (h : All (AsAsked past) (claimsOn d)) where
   abbrev c : Claim
   c = asked d (askedIn r)
@@ -115,7 +115,7 @@ module _ (h : History) (k : BoardCall) (w : Whole h) (bs : BytesIn k) (past : �
   abbrev later : ℕ → List Claimed
   later d = past d ++ claimedOn (h .board) k d
 
-  -- What the call takes on its own disk, by what it says.
+  -- What the call claimed on its own disk, by what it said.
   own-taken : (x : Said) → saidBy b k ≡ x → claimedOn b k dk ≡ taken x r
   own-taken x i = rw (eq-eqb dk dk refl) (ap (λ (y : Said). taken y r) i)
 

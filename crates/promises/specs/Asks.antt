@@ -1,5 +1,5 @@
--- What was asked on each disk: the claims that calls made, each with its ticket and its record; the tickets that were taken. And what
--- was said of a claim.
+-- What was asked on each disk: the accepted claims, each with its ticket and its record, and the tickets that were taken. And
+-- the relation between a claim on the board and what was asked and said.
 use Prim.Native.Nat.{ℕ}
 use mathlib.Core.Bool.{Bool, cond}
 use mathlib.Core.List.{List, [], _∷_, _++_}
@@ -15,7 +15,7 @@ use Rattle.desk.specs.Record.{kindByte, diskNumber, askedIn}
 use Rattle.desk.specs.Step.{Said, refuses, accepts}
 use Rattle.promises.specs.Histories.{BoardCall, saidBy, itemsIn, History, after}
 
--- A claim as it was asked for: without what a grant adds.
+-- The claim as it was asked for: told and amount, which a grant sets, are 0.
 abbrev pub asAsked : Claim → Claim
 asAsked c = putTold c (pos 0) 0
 
@@ -24,11 +24,12 @@ pub record Claimed : Type 0 where
   pub ticket : ℕ
   pub asks : List ℕ
 
--- What a call with these items claimed, if its record is a claim's.
+-- What an accepted call with these items claimed; v says whether its record is a claim's.
 abbrev pub takenBy : Bool → List Item → List ℕ → List Claimed
 takenBy v [] r = []
 takenBy v (i ∷ items) r = cond v (record { ticket = i .ticket; asks = r } ∷ []) []
 
+-- What a call claimed, by what it said; a refused call claims nothing.
 abbrev pub taken : Said → List ℕ → List Claimed
 taken (refuses x) r = []
 taken (accepts items) r = takenBy (eqb (kindByte r) 2) items r
@@ -42,7 +43,7 @@ unfoldable pub claimed : History → List BoardCall → ℕ → List Claimed
 claimed h [] d = []
 claimed h (k ∷ ks) d = claimedOn (h .board) k d ++ claimed (after h k) ks d
 
--- The ticket that a call took: that of its own answer, the first item, where it grants a claim (code 0) or lets it wait (code 1).
+-- The ticket that a call took: the ticket of its own answer (the first item), if that grants a claim (code 0) or lets it wait (code 1).
 abbrev pub tookBy : List Item → List ℕ
 tookBy [] = []
 tookBy (i ∷ items) = cond (leb (i .code) 1) (i .ticket ∷ []) []
@@ -61,14 +62,14 @@ abbrev pub Some : {A : Type 0} → (A → Type 0) → List A → Type 0
 Some P [] = ⊥
 Some P (x ∷ xs) = P x ⊎ Some P xs
 
--- The claim is one of those, with its ticket, and but for told and amount as its record asks.
+-- The claim is one of those claimed: its ticket is the one taken, and all but told and amount is as the record asks.
 abbrev pub AsAsked : List Claimed → Claim → Type 0
 AsAsked past c = Some (λ x. asAsked c ≡ claimOf (askedIn (x .asks)) (x .ticket)) past
 
--- The claim is one of those, with its ticket, and its own error or stated limit is the one in bytes 20–23 of its record.
+-- The claim's ticket is one of those claimed, and its own error or stated limit stands in bytes 20–23 of that record.
 abbrev pub Stated : List Claimed → Claim → Type 0
 Stated past c = Some (λ x. (c .ticket ≡ x .ticket) × (c .error ≡ wordAt (x .asks) 20)) past
 
--- One of those items granted the claim, with its ticket and the told sum that it has.
+-- One of the items granted the claim: it has the claim's ticket and told sum.
 abbrev pub WasGranted : List Item → Claim → Type 0
 WasGranted past c = Some (λ i. (i .code ≡ 0) × ((i .ticket ≡ c .ticket) × (i .told ≡ c .told))) past

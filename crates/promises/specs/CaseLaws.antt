@@ -1,4 +1,4 @@
--- Laws: a call on a board of the right length refuses and leaves it, or opens a disk, or is served by the law on a sound part.
+-- Laws: a call on a board of the right length is refused and leaves it, or opens a disk, or is served by the law on a sound part.
 use Prim.Native.Nat.{ℕ, _≤_, _<_, _^_}
 use mathlib.Core.Bool.{true, false}
 use mathlib.Core.List.{List, [], _∷_}
@@ -49,7 +49,7 @@ module _ (b r : List ℕ) (whole : length b ≡ boardBytes) where
   abbrev d : ℕ
   d = diskNumber r
 
-  -- A refusal on the part leaves the board.
+  -- A refusal leaves the part, and so the board.
   part-refused : d < disks → (x : Refusal) → onPart b d (refusing (partOf b d) x) ≡ refusing b x
   part-refused known x = ap (λ (c : List ℕ). refusing c x) (with-same b d whole known)
 
@@ -110,7 +110,7 @@ now-fits r bs = word-at-fits r 8 bs
 
 -- ---- the disk that an accepted call leaves
 
--- An opened disk, with its clock.
+-- An opened disk is sound, and its clock is now.
 pub opened-sound : (r : List ℕ) → usedLimit r ≤ 2_000_000_000 → promisedLimit r ≤ 2_000_000_000 →
     Sound diskTable (opened (nowOf r) (usedLimit r) (promisedLimit r))
 opened-sound r f0 f1 = sound-opened diskTable (nowOf r) (usedLimit r) (promisedLimit r) f0 f1
@@ -124,7 +124,7 @@ pub opened-now : (r : List ℕ) → opened (nowOf r) (usedLimit r) (promisedLimi
 unfolding opened
 opened-now r = refl
 
--- A served disk, with its clock.
+-- A served disk is sound, and its clock is now.
 module _ (p r : List ℕ) (bs : Bytes r) (w : wellFormed r ≡ true) (s : soundPart p ≡ true) (f : LawDisk) (items : List Item)
     (q : answered diskTable (held p) (callOf r) ≡ accepted f items) where
   pub served-sound : Sound diskTable f

@@ -1,4 +1,4 @@
--- The number of open disks: what its answer says, and exactly when.
+-- The number of open disks: its answer, and exactly when it is refused.
 use Prim.Native.Nat.{ℕ}
 use mathlib.Core.List.{List}
 use mathlib.Core.Logic.{_↔_}
@@ -17,7 +17,7 @@ use Rattle.desk.specs.declared.board.Count.the-variants as C
 use Rattle.desk.specs.Board.{boardBytes}
 use Rattle.desk.specs.Counts.{countOf}
 
--- 01's number of each case, 0 where it is no refusal; and the value of each.
+-- 01's number of each case, 0 if it is no refusal; and the count in each case, 0 in a refusal.
 abbrev pub numberIn : Count → ℕ
 numberIn (C.Disks n) = 0
 numberIn C.Length = numberOf R.Length
@@ -26,7 +26,7 @@ abbrev pub disksIn : Count → ℕ
 disksIn (C.Disks n) = n
 disksIn C.Length = 0
 
--- 9 exactly of a board of another length.
+-- 9 exactly if the board has another length.
 pub count-refused-exactly : (b : List ℕ) → (numberIn (countOf b) ≡ 9) ↔ (length b ≡ 49_216 → ⊥)
 unfolding countOf
 count-refused-exactly b =
@@ -34,7 +34,7 @@ count-refused-exactly b =
     (λ v. (λ e. absurd (omega arith), λ h. absurd (h (eqb-true (length b) boardBytes v))))
     (λ v. (λ e. eqb-false (length b) boardBytes v, λ h. refl))
 
--- Of a board, how many of its 64 bits are set.
+-- On a board of the right length: how many of its 64 bits are set.
 pub count-is : (b : List ℕ) → length b ≡ 49_216 → countOf b ≡ C.Disks (countTo (openAt b) 64)
 unfolding countOf openCount
 count-is b h = rw (eq-eqb (length b) boardBytes h)

@@ -1,5 +1,5 @@
--- Demand 1: what a call ends in, when it is refused and with which number, when it is granted, waits, releases or opens, and what a
--- refusal leaves. On any board b, record r and answer buffer a, of any length and any content.
+-- Demand 1: how a call ends, when it is refused and with which number, when it grants, waits, releases or opens, and what a
+-- refusal leaves unchanged. For any board b, record r and answer buffer a, of any length and content.
 use Prim.Native.Nat.{ℕ, _≤_, _<_}
 use mathlib.Core.List.{List, _++_}
 use mathlib.Core.Logic.{_↔_, _⊎_, inr, ⊎-elim}
@@ -21,11 +21,11 @@ every-call-ends b r a =
     (λ w v. answer-ends (ownOf (effectOf b r .said)))
     (inr (omega arith, omega arith))
 
--- Each refusal n is given exactly when its sentence holds and none before it does (`Sentences` has them in order).
+-- Refusal n is given exactly if its sentence holds and no sentence before it does (`Sentences` has them in order).
 pub refused-exactly : (n : ℕ) → 9 ≤ n → (b r a : List ℕ) → (stepOf b r a .code ≡ n) ↔ FirstHolds n (sentences b r a)
 refused-exactly n l b r a = code-exactly b r a n l
 
--- A call is accepted exactly when none of the sentences holds.
+-- A call is accepted exactly if none of the sentences holds.
 pub accepted-exactly : (b r a : List ℕ) → (stepOf b r a .code ≤ 3) ↔ NoneHold (sentences b r a)
 accepted-exactly b r a = (
   λ h. first-none (sentences b r a) (λ n f. omega (arith, h, first-least b r a n f, code-exactly b r a n (first-least b r a n f) .1 f)),
@@ -35,8 +35,8 @@ accepted-exactly b r a = (
       (every-call-ends b r a),
 )
 
--- And then: granted exactly when it is a claim and preconditions hold, nothing bars, the lock step passes and fewer than 8 are
--- active; waits exactly when it is any other claim; released and opened exactly when it is a release and an open.
+-- If none holds: a claim is granted exactly if preconditions hold, nothing bars, the lock step passes and fewer than 8 are
+-- active; any other claim waits; a release is released, and an open opened.
 module _ (b r a : List ℕ) where
   among : {P : Type 0} (n : ℕ) → n ≤ 3 → (Ends b r (stepOf b r a .code) → (stepOf b r a .code ≡ n) ↔ P) →
       (stepOf b r a .code ≡ n) ↔ (NoneHold (sentences b r a) × P)
@@ -60,7 +60,7 @@ module _ (b r a : List ℕ) where
   pub opened-exactly : (stepOf b r a .code ≡ 3) ↔ (NoneHold (sentences b r a) × (kindByte r ≡ 1))
   opened-exactly = among 3 (omega arith) (ends-opened b r (stepOf b r a .code))
 
--- A refusal leaves the board as it was, every byte of it.
+-- A refusal leaves every byte of the board as it was.
 pub refusal-leaves-board : (b r a : List ℕ) → 9 ≤ stepOf b r a .code → stepOf b r a .bytes ≡ b
 refusal-leaves-board b r a =
     by-lengths b r a (λ s. 9 ≤ s .code → s .bytes ≡ b) (λ w v. effect-leaves b r w) (λ h. refl)
@@ -72,7 +72,7 @@ refusal-leaves-answer b r a e =
     (λ w v. absurd (nine-only b r a (refused-exactly 9 (omega arith) b r a .0 e) (w, v)))
     refl
 
--- Any other refusal puts its number into the first four bytes of the answer buffer, and the other 140 are zero.
+-- Any other refusal puts its number into the first four bytes of the answer buffer and zeros into the other 140.
 pub refusal-answers : (b r a : List ℕ) → 9 < stepOf b r a .code →
     stepOf b r a .answer ≡ le4 (stepOf b r a .code) ++ replicate 140 0
 refusal-answers b r a =

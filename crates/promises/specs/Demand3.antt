@@ -42,9 +42,9 @@ use Rattle.promises.specs.TakenLaws.{lived-rises}
 
 -- ---- first half: a reading can rely on what it was told, as long as it is held
 
--- Of a part p and an item i that was said on its disk: where i granted a reading, and the reading r is still active, what it was told and
--- the present sum of the same figures differ by no more than its stated limit (`error`) less the error that those figures carried at that
--- grant. Said as a sum: the difference and the carried error together are within the limit.
+-- For a part p and an item i said on its disk: if i granted a reading, and that reading r is still active, its told sum and the
+-- present sum of the same figures differ by at most its stated limit (`error`) less the error that those figures carried at
+-- that grant. Written as a sum: difference plus carried error is within the limit.
 abbrev pub Relies : List ℕ → Item → Type 0
 Relies p i =
     i .code ≡ 0 →
@@ -53,24 +53,25 @@ Relies p i =
     dist (i .told) (present (held p .core .figures) m) + i .carried ≤ r .error)
     (held p .core .active)
 
--- For any calls from the empty board, refused ones and calls on other disks among them, and any disk d: it holds for all that was said on d.
+-- After any calls from the empty board, refused ones and calls on other disks included, this holds for every item said on disk d.
 pub told-bound : (ks : List BoardCall) → All BytesIn ks → (d : ℕ) → d < disks →
     All (Relies (partOf (lived begun ks .board) d)) (lived begun ks .past d)
 told-bound ks bs d h =
     by-life ks bs d h (λ e past. All (Bounded diskTable (e .core)) past) (λ o e. tt)
     (λ l. reader-bound diskTable (l .now) (l .limit0) (l .limit1) (l .calls))
 
--- Disk and ticket name a reading for all time: no ticket of a disk is granted twice.
+-- Disk and ticket identify a reading for all time: no ticket of a disk is granted twice.
 pub granted-once : (ks : List BoardCall) → All BytesIn ks → (d : ℕ) → d < disks → Pairs Once (lived begun ks .past d)
 granted-once ks bs d h =
     by-life ks bs d h (λ e past. Pairs Once past) (λ o e. tt) (λ l. law-granted-once diskTable (l .now) (l .limit0) (l .limit1) (l .calls))
 
--- All claims take different tickets: of any two calls whose own answer, on that disk, grants a claim or lets it wait, the later one took
--- the higher ticket.
+-- All claims take different tickets: of any two calls whose own answer on a disk grants a claim or
+-- lets it wait, the later one took the higher ticket.
 pub tickets-once : (ks : List BoardCall) → All BytesIn ks → (d : ℕ) → d < disks → Pairs _<_ (took begun ks d)
 tickets-once ks bs d h = lived-rises begun ks bs whole-begun d h .apart
 
--- And every reading that is active was granted by an item that was said, with the told sum that stands on the board: none is left out.
+-- Every active claim was granted by an item that was said, with the told sum that stands on
+-- the board: `told-bound` leaves no reading out.
 pub readings-told : (ks : List BoardCall) → All BytesIn ks → (d : ℕ) → d < disks → openAt (lived begun ks .board) d ≡ true →
     All (WasGranted (lived begun ks .past d)) (held (partOf (lived begun ks .board) d) .core .active)
 readings-told ks bs d h on =
@@ -79,14 +80,14 @@ readings-told ks bs d h on =
 
 -- ---- the limit that it stated
 
--- After any calls from the empty board: every claim of an open disk, active or waiting, is one that a record claimed, with the
--- ticket that it took then, and but for told and amount as that record asks.
+-- After any calls from the empty board, every claim of an open disk, active or waiting, was claimed by some record: it has the
+-- ticket taken then, and all but told and amount is as that record asks.
 pub claims-as-asked : (ks : List BoardCall) → All BytesIn ks → (d : ℕ) → d < disks → openAt (lived begun ks .board) d ≡ true →
     All (AsAsked (claimed begun ks d)) (claimsOn (held (partOf (lived begun ks .board) d)))
 claims-as-asked ks bs =
     lived-asked begun ks bs whole-begun (λ d. []) (λ d l o. absurd (true≢false (sym o ∙ empty-shut d l)))
 
--- So the limit by which `told-bound` binds is the one that the reading's record states in bytes 20–23.
+-- So the limit in `told-bound` is the one that the reading's own record states in bytes 20–23.
 pub limit-stated : (ks : List BoardCall) → All BytesIn ks → (d : ℕ) → d < disks → openAt (lived begun ks .board) d ≡ true →
     All (Stated (claimed begun ks d)) (claimsOn (held (partOf (lived begun ks .board) d)))
 unfolding askedIn
@@ -96,28 +97,28 @@ limit-stated ks bs d l o =
     (claimsOn (held (partOf (lived begun ks .board) d)))
     (claims-as-asked ks bs d l o)
 
--- ---- and what was said is what the answer buffer showed
+-- ---- what was said is what the answer buffer shows
 
--- The call returns its own answer's code; its own answer and the grants of its pass stand in the buffer, all else zero.
+-- The call returns its own answer's code. The buffer shows its own answer, then the grants of its pass, all else zero.
 pub answer-shows : (b : List ℕ) (k : BoardCall) → length b ≡ boardBytes → length (k .buffer) ≡ answerSize →
     (stepBy b k .code ≡ codeOf (ownOf (saidBy b k)))
     × (stepBy b k .answer ≡ answerBytes (ownOf (saidBy b k)) (grantsOf (saidBy b k)))
 unfolding stepOf saidBy
 answer-shows b k n m = rw (eq-eqb (length b) boardBytes n, eq-eqb (length (k .buffer)) answerSize m) (refl, refl)
 
--- An item that grants is shown with its ticket, what it was told, and its amount.
+-- An item that grants is shown with its ticket, told sum and amount.
 pub grant-shows : (i : Item) → i .code ≡ 0 → answerOf i ≡ A.Granted (i .ticket) (i .told) (i .amount)
 unfolding answerOf
 grant-shows i e = rw e
 
--- One that lets a claim wait, with its ticket.
+-- An item that lets a claim wait is shown with its ticket.
 pub wait-shows : (i : Item) → i .code ≡ 1 → answerOf i ≡ A.Waits (i .ticket)
 unfolding answerOf
 wait-shows i e = rw e
 
 -- ---- second half: no reader pays for another's limit
 
--- A well-formed claim of a reading of mask m: a reading's method, no second of measuring, no value, a limit in range.
+-- A well-formed claim on a method that reads mask m: second of measuring and value 0, a limit in range.
 pub record AsksReading (r : List ℕ) (m : ℕ) : Type 0 where
   pub formed : WellFormed r
   pub claims : kindByte r ≡ 2
@@ -128,16 +129,17 @@ pub record AsksReading (r : List ℕ) (m : ℕ) : Type 0 where
   pub value : signedAt r 16 ≡ pos 0
   pub stated : wordAt r 20 ≤ 2_000_000_000
 
--- The law's reading of such a record.
+-- Such a record, decoded, is a well-formed reading in the law's sense.
 asks : (r : List ℕ) (m : ℕ) → AsksReading r m → Reading diskTable (askedIn r) m
 unfolding askedIn diskTable
 asks r m h = record { method = h .method; kind = h .reading; value = h .value; measured = h .measured; stated = h .stated }
 
--- After any calls ks from the empty board comes the call k, a reading on an open disk. Under exactly the mission's conditions (`Free`, in
--- law's GrantedAtOnce: the clock, a ticket, a place, no writer of what it reads active or ahead, a carried error that it bears, fresh figures
--- if it asked for that) it is granted in its own call: code 0, told the present sum, its amount the error that the figures carry.
+-- After any calls ks from the empty board comes the call k, a reading on an open disk. Under exactly the mission's conditions
+-- (`Free` in law's Conditions: the clock, a ticket, a place, no writer of what it reads active or waiting at its priority or
+-- above, a carried error within its limit, fresh figures if it asked for that) it is granted in its own call: code 0, told the
+-- present sum, its amount the error that the figures carry.
 module _ (ks : List BoardCall) (bs : All BytesIn ks) (k : BoardCall) (room : length (k .buffer) ≡ 144) where
-  -- The board that the calls have left, the record, and the record's disk as the board has it.
+  -- The board that the calls left, the record, and the record's disk as the board holds it.
   abbrev b : List ℕ
   b = lived begun ks .board
 

@@ -1,4 +1,5 @@
--- Any calls on a board from the empty one, each with any record and any answer buffer, and what was said on each disk so far.
+-- The history of a board: any calls from the empty board, each with any record and any answer
+-- buffer, and what was said on each disk so far.
 use Prim.Native.Nat.{ℕ}
 use mathlib.Core.Bool.{cond, _&&_}
 use mathlib.Core.List.{List, [], _∷_, _++_}
@@ -16,20 +17,20 @@ use Rattle.desk.specs.Step.{Said, refuses, accepts, effectOf, Stepped, stepOf}
 abbrev pub emptyBoard : List ℕ
 emptyBoard = replicate boardBytes 0
 
--- What a call hands in besides the board: the bytes of a record and of an answer buffer.
+-- What a call gets besides the board: the bytes of a record and of an answer buffer.
 pub record BoardCall : Type 0 where
   pub asks : List ℕ
   pub buffer : List ℕ
 
--- The record is bytes: each of its numbers is below 256.
+-- The record consists of bytes: each number is below 256.
 abbrev pub BytesIn : BoardCall → Type 0
 BytesIn k = Bytes (k .asks)
 
--- The call's code, and board and answer buffer after it.
+-- The call's code, and the board and answer buffer after it.
 abbrev pub stepBy : List ℕ → BoardCall → Stepped
 stepBy b k = stepOf b (k .asks) (k .buffer)
 
--- What the call says: its items, each with the error that the figures carried at that grant, or a refusal.
+-- What the call says: a refusal, or its items, each with the error that the figures carried at that grant.
 unfoldable pub saidBy : List ℕ → BoardCall → Said
 saidBy b k =
     cond (eqb (length b) boardBytes && eqb (length (k .buffer)) answerSize) (effectOf b (k .asks) .said) (refuses R.Length)
@@ -48,11 +49,11 @@ pub record History : Type 0 where
   pub board : List ℕ
   pub past : ℕ → List Item
 
--- It begins with the empty board, and nothing said.
+-- The history begins with the empty board and nothing said.
 abbrev pub begun : History
 begun = record { board = emptyBoard; past = λ d. [] }
 
--- One call more: the board that it leaves, and what it says behind what was said.
+-- After one more call: the board that it leaves, and its items appended.
 abbrev pub after : History → BoardCall → History
 after h k = record { board = stepBy (h .board) k .bytes; past = λ d. h .past d ++ itemsOn (h .board) k d }
 

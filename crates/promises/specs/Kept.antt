@@ -1,5 +1,5 @@
--- What every call keeps, whatever board is lent: no accepted call leaves an unsound part or another clock than its now, and nothing
--- but the call's own disk moves or is read.
+-- What every call keeps, whatever board is lent: an accepted call leaves a sound part with its clock at now, and nothing but
+-- the call's own disk is changed or read.
 use Prim.Native.Nat.{ℕ, _^_, _≤_, _<_}
 use mathlib.Core.Bool.{Bool, true, false, cond, _&&_}
 use mathlib.Core.List.{List}
@@ -69,7 +69,7 @@ module _ (b r a : List ℕ) (bs : Bytes r) where
   left-fits : {p : List ℕ} (l : Left p) → l .disk .core .clock < 2 ^ 32
   left-fits l = omega (arith, l .clock, now-fits r bs)
 
-  -- Whatever board was lent.
+  -- No accepted call leaves an unsound part, whatever board was lent.
   pub no-unsound : stepOf b r a .code ≤ 3 → SoundPart (partOf (stepOf b r a .bytes) (diskNumber r))
   no-unsound h =
       let l = left h in subst SoundPart (sym (l .is)) (says-sound-part (partFor (l .disk)) .0 (part-sound (l .disk) (l .sound) (left-fits l)))
@@ -82,9 +82,10 @@ module _ (b r a : List ℕ) (bs : Bytes r) where
       ∙ ap (λ (d : LawDisk). d .core .clock) (held-part (l .disk) (l .sound) (left-fits l))
       ∙ l .clock
 
-  -- ---- nothing but the call's own disk moves
+  -- ---- nothing but the call's own disk changes
 
-  -- The board stays; or the part of the call's disk is another; or that, and its bit is set. What holds of each holds of the board.
+  -- Three cases: the board stays; or the part of the call's disk is replaced; or it is replaced and the disk's bit set. A fact
+  -- of each case is a fact of the board after the call.
   by-change : (P : List ℕ → Type 0) → P b →
       (length b ≡ boardBytes → diskNumber r < disks → (p : List ℕ) → length p ≡ 768 → Bytes p → P (withPart b (diskNumber r) p)) →
       (length b ≡ boardBytes → diskNumber r < disks → (p : List ℕ) → length p ≡ 768 → P (withPart b (diskNumber r) p) →
@@ -104,14 +105,14 @@ module _ (b r a : List ℕ) (bs : Bytes r) where
           subst (λ (y : Effect). P (y .bytes)) (sym t)
           (part n known (partFor f) (served-size (partOf b (diskNumber r)) r bs w s f items q) (bytes-part-for f))
 
-  -- The other disks' parts.
+  -- The parts of the other disks stay.
   pub other-parts : (e : ℕ) → e < disks → e ≢ diskNumber r → partOf (stepOf b r a .bytes) e ≡ partOf b e
   other-parts e l n =
       by-change (λ c. partOf c e ≡ partOf b e) refl
       (λ size known p full bytes. part-other b (diskNumber r) size known p full e l n)
       (λ size known p full same. part-open (withPart b (diskNumber r) p) (diskNumber r) e known ∙ same)
 
-  -- Their open bits.
+  -- Their open bits stay.
   pub other-bits : (e : ℕ) → e < disks → e ≢ diskNumber r → openAt (stepOf b r a .bytes) e ≡ openAt b e
   other-bits e l n =
       by-change (λ c. openAt c e ≡ openAt b e) refl
@@ -120,14 +121,14 @@ module _ (b r a : List ℕ) (bs : Bytes r) where
       open-set-other (withPart b (diskNumber r) p) (diskNumber r) known (omega (arith, length-with b (diskNumber r) size known p full)) e n
       ∙ same)
 
-  -- Bytes 8 to 63 of the head.
+  -- Bytes 8 to 63 of the head stay.
   pub head-stays : (k : ℕ) → 8 ≤ k → k < 64 → getD (stepOf b r a .bytes) k 0 ≡ getD b k 0
   head-stays k l u =
       by-change (λ c. getD c k 0 ≡ getD b k 0) refl
       (λ size known p full bytes. byte-before b (diskNumber r) size known p full k (omega arith))
       (λ size known p full same. byte-set-open (withPart b (diskNumber r) p) (diskNumber r) k (λ e. omega (arith, known)) ∙ same)
 
-  -- And the board keeps its length.
+  -- The board keeps its length.
   pub size-stays : length (stepOf b r a .bytes) ≡ length b
   size-stays =
       by-change (λ c. length c ≡ length b) refl
@@ -176,7 +177,7 @@ module _ (b c r a : List ℕ) (same : length b ≡ length c) where
       go true true e = refl
       go true false e = let known = leb-false disks (diskNumber r) e in disk-said (o known) (p known)
 
-  -- Whatever else two boards of one length hold, the call returns and answers the same.
+  -- If two boards agree in length and in the disk's bit and part, the call returns and answers the same.
   pub reads-own : (diskNumber r < disks → openAt b (diskNumber r) ≡ openAt c (diskNumber r)) → (diskNumber r < disks → partOf b (diskNumber r) ≡ partOf c (diskNumber r)) →
       (stepOf b r a .code ≡ stepOf c r a .code) × (stepOf b r a .answer ≡ stepOf c r a .answer)
   unfolding stepOf

@@ -1,23 +1,23 @@
--- The promises: the page to begin with. They are over bytes: a board b, a record r, an answer buffer a.
+-- The promises: begin here. They speak of bytes: a board b, a record r, an answer buffer a.
 --
--- A promise is a name, a colon and a sentence. What begins with the name once more is its proof, and no reader needs it: the
+-- A promise is a name, a colon and a sentence. The lines that repeat the name are its proof, which no reader needs: the
 -- toolchain has checked it. The sentences are read aloud like this:
 --
 --     (b r a : List ℕ) →    for any board, record and answer buffer,
---     stepOf b r a          what one call on them comes to: its .code, and the board (.bytes) and the .answer after it
+--     stepOf b r a          the result of one call on them: its .code, and the board (.bytes) and the .answer after it
 --     x .f                  the f of x
 --     x ≡ y                 x is y
 --     P → Q                 if P, then Q
 --     P → ⊥                 not P
 --     P × Q, P ⊎ Q          P and Q, P or Q
 --     P ↔ Q                 P exactly if Q
---     λ i. P                of an i, that P
---     All P xs              P of everything in the list xs
+--     λ i. P                the property P of an i
+--     All P xs              P holds of everything in the list xs
 --
 -- So `(b r a : List ℕ) → 9 ≤ stepOf b r a .code → stepOf b r a .bytes ≡ b` (Demand1) says: for any board, record and answer buffer,
 -- if the code of the call is 9 or more, then the board after it is the board before it.
 --
--- First what the promises speak of, then the promises, then laws, which are for those who prove.
+-- First the definitions that the promises use, then the promises, then laws, which only provers need.
 pub mod Histories
 pub mod Asks
 pub mod Sentences

@@ -1,5 +1,5 @@
--- Laws: each disk of a board that calls from the empty one have left is shut, or lives as the law says, and all that was said on it
--- is what the law said.
+-- Laws: each disk of a board that calls from the empty one leave is shut, or has a life as the law says: its part and all that
+-- was said on it are those of a history of the law.
 use Prim.Native.Nat.{ℕ, _≤_, _<_, _^_}
 use mathlib.Core.Bool.{true, false, true≢false}
 use mathlib.Core.List.{List, [], _∷_, _++_, append-nil}
@@ -30,7 +30,7 @@ use Rattle.promises.specs.TurnLaws.{Turn, stays, opens, serves, turn, ow
 
 -- ---- the life of a disk
 
--- A disk opened with limits in range, and the calls on it since; each is one that a record can hold.
+-- A life: a disk opened with limits in range, and the calls on it since; a record can hold each of these calls.
 pub record Life : Type 0 where
   pub now : ℕ
   pub limit0 : ℕ
@@ -47,11 +47,11 @@ lifeOf l = lawLived diskTable (lawBegun (l .now) (l .limit0) (l .limit1)) (l .ca
 pub life-sound : (l : Life) → Sound diskTable (lifeOf l .disk)
 life-sound l = lived-sound diskTable disk-proper (l .now) (l .limit0) (l .limit1) (l .fits0) (l .fits1) (l .calls) (l .readable)
 
--- The disk that stands in the part of a life.
+-- The part of a life holds the life's disk.
 life-disk : {p : List ℕ} (l : Life) → p ≡ partFor (lifeOf l .disk) → held p ≡ lifeOf l .disk
 life-disk l e = ap held e ∙ held-part (lifeOf l .disk) (life-sound l) (l .clock)
 
--- One call more.
+-- The history after one more call.
 lived-last : (h : LawHistory) (ks : List Call) (k : Call) →
     lawLived diskTable h (ks ++ (k ∷ [])) ≡ lawAfter (lawLived diskTable h ks) (answered diskTable (lawLived diskTable h ks .disk) k)
 unfolding lawLived
@@ -65,13 +65,13 @@ pub data Stands (b : List ℕ) (past : List Item) (d : ℕ) : Type 0 where
   shut : openAt b d ≡ false → past ≡ [] → Stands b past d
   lives : openAt b d ≡ true → (l : Life) → partOf b d ≡ partFor (lifeOf l .disk) → past ≡ lifeOf l .past → Stands b past d
 
--- Where bit, part and past are the same, it stands as it did.
+-- If bit, part and past stay the same, so does this.
 stands-same : {b c : List ℕ} {past past′ : List Item} {d : ℕ} → openAt c d ≡ openAt b d → partOf c d ≡ partOf b d → past′ ≡ past →
     Stands b past d → Stands c past′ d
 stands-same o p q (shut x y) = shut (o ∙ x) (q ∙ y)
 stands-same o p q (lives x l y z) = lives (o ∙ x) l (p ∙ y) (q ∙ z)
 
--- What holds of a board and its past.
+-- The invariant of a board and its past.
 pub record Whole (h : History) : Type 0 where
   pub size : length (h .board) ≡ boardBytes
   pub bytes : Bytes (h .board)
@@ -124,7 +124,7 @@ module _ (h : History) (k : BoardCall) (bs : BytesIn k) where
       lives on (begins f0 f1) p (ap (λ (x : List Item). x ++ itemsOn b k dk) y ∙ own-items b k ∙ ap itemsIn i)
   each-after (opens off f0 f1 on p i) (lives x l y z) = absurd (true≢false (sym x ∙ off))
   each-after (serves w was s f items a on p i) (shut x y) = absurd (true≢false (sym was ∙ x))
-  -- A served disk lives on by that call.
+  -- A served disk continues its life with that call.
   each-after (serves w was s f items a on p i) (lives x l y z) =
       lives on more (p ∙ ap partFor (sym (ap (λ (g : LawHistory). g .disk) next)))
       (ap (λ (x : List Item). x ++ itemsOn b k dk) z
@@ -159,16 +159,16 @@ whole-after h k w bs =
       each = λ d l. each-after h k bs (turn (h .board) k (w .size) bs d l) (w .each d l);
     }
 
--- Any calls from the empty board leave a whole one.
+-- Any calls keep the board whole.
 pub whole-lived : (h : History) (ks : List BoardCall) → All BytesIn ks → Whole h → Whole (lived h ks)
 unfolding lived
 whole-lived h [] bs w = w
 whole-lived h (k ∷ ks) bs w = whole-lived (after h k) ks (bs .1) (whole-after h k w (bs .0))
 
--- ---- what holds of each life holds of each disk of such a board
+-- ---- a fact of each life is a fact of each disk of such a board
 
 module _ (ks : List BoardCall) (bs : All BytesIn ks) (d : ℕ) (known : d < disks) where
-  -- Nothing was said on a shut disk.
+  -- Two cases: a shut disk, on which nothing was said, and a life.
   pub by-life : (P : LawDisk → List Item → Type 0) →
       (openAt (lived begun ks .board) d ≡ false → (e : LawDisk) → P e []) → ((l : Life) → P (lifeOf l .disk) (lifeOf l .past)) →
       P (held (partOf (lived begun ks .board) d)) (lived begun ks .past d)

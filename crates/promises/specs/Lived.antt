@@ -1,4 +1,4 @@
--- What every board has that calls from the empty one have left: its open parts are sound.
+-- What holds of every board that calls from the empty one leave: its open parts are sound.
 use Prim.Native.Nat.{ℕ, _<_}
 use mathlib.Core.Bool.{true}
 use mathlib.Core.List.{List}

@@ -1,4 +1,4 @@
--- The reader of a run of records: what its pieces are together, that the walk over them ends, and what the desk makes of them.
+-- The reader of a run of records: its pieces together are the run, the walk over them ends, and how the desk treats each piece.
 use Prim.Native.Nat.{ℕ, _+_, _-_, _≤_, _<_}
 use mathlib.Core.List.{List}
 use mathlib.Core.Logic.{⊎-elim}
@@ -30,11 +30,11 @@ pieces-join s = joined-from (length s) s 0 (omega arith)
 pub byte-once : (s : List ℕ) (i : ℕ) → i < length s → having i (spans s) ≡ 1
 byte-once s i h = having-one (length s) i s 0 (omega arith) (omega arith) h
 
--- From any place the walk ends, after at most as many pieces as the run has bytes.
+-- From any position the walk ends, after at most as many pieces as the run has bytes.
 pub walk-ends : (s : List ℕ) (at : ℕ) → pieceAt s (walked (length s) s at) ≡ End
 walk-ends s at = piece-end s (walked (length s) s at) (walked-to-end (length s) s at (omega arith))
 
--- At the end of the run and past it nothing begins.
+-- No piece begins at the end of the run or past it.
 pub past-end : (s : List ℕ) (at : ℕ) → length s ≤ at → pieceAt s at ≡ End
 past-end s at h = piece-end s at h
 
@@ -42,14 +42,14 @@ past-end s at h = piece-end s at h
 pub short-last : (s : List ℕ) (at to : ℕ) → pieceAt s at ≡ Short to → (to ≡ length s) × ((at < to) × (to < at + lengthAt s at))
 short-last s at to e = short-is s at to e
 
--- ---- what the desk makes of a piece
+-- ---- how the desk treats a piece
 
--- The reader's length of a kind is the one that the desk asks.
+-- The reader's length for a kind is the length that the desk asks for.
 pub same-length : (kind : ℕ) → lengthOf kind ≡ recordBytes kind
 unfolding lengthOf
 same-length kind = refl
 
--- The bytes of a piece within the run, and its kind.
+-- The number of bytes of a piece, and its kind.
 module _ (s : List ℕ) (at to : ℕ) (h : to ≤ length s) where
   piece-size : length (bytesOf s (span at to)) ≡ to - at
   piece-size = simp (length-take, length-drop) (omega arith)
@@ -57,7 +57,7 @@ module _ (s : List ℕ) (at to : ℕ) (h : to ≤ length s) where
   piece-kind : at + 2 < to → kindByte (bytesOf s (span at to)) ≡ getD s (at + 2) 0
   piece-kind l = getD-take (to - at) (drop at s) 2 0 (omega arith) ∙ getD-drop at s 2 0
 
--- A whole record has the length that the desk asks of its kind.
+-- A whole record has the length that the desk asks for its kind.
 pub whole-fits : (s : List ℕ) (at to : ℕ) → pieceAt s at ≡ Record to →
     length (bytesOf s (span at to)) ≡ recordBytes (kindByte (bytesOf s (span at to)))
 whole-fits s at to e =
@@ -69,7 +69,7 @@ whole-fits s at to e =
     ∙ ap lengthOf (sym (piece-kind s at to (h .1) (omega (arith, h .0))))
     ∙ same-length (kindByte (bytesOf s (span at to)))
 
--- The kind of a piece that reaches the end of the run, also where it is too short to have one.
+-- The kind of a piece that reaches the end of the run; past the end both sides are 0.
 last-kind : (s : List ℕ) (at : ℕ) → kindByte (bytesOf s (span at (length s))) ≡ getD s (at + 2) 0
 last-kind s at =
     ⊎-elim
@@ -79,7 +79,7 @@ last-kind s at =
     (λ (l : 0 < length s - (at + 2)). piece-kind s at (length s) (omega arith) (omega arith))
     (eq-zero-or-pos (length s - (at + 2)))
 
--- A record of another length than its kind asks is not well formed, and is refused 10.
+-- A record whose length is not that of its kind is refused 10.
 other-length : (b r a : List ℕ) → (length r ≡ recordBytes (kindByte r) → ⊥) → length b ≡ boardBytes → length a ≡ answerSize →
     stepOf b r a .code ≡ 10
 unfolding stepOf effectOf wellFormed
@@ -109,14 +109,14 @@ short-refused b s a at to e whole size =
 
 -- ---- any two results are equal
 
--- The piece at a place (`next`, `piece_in`).
+-- The piece at a position (`next`, `piece_in`).
 pub piece-unique : (s : List ℕ) (at : ℕ) {p q : Piece} → p ≡ pieceAt s at → q ≡ pieceAt s at → p ≡ q
 piece-unique s at p q = unique p q
 
--- A reader at a place (`new`, `moved`).
+-- A reader at a position (`new`, `moved`).
 pub reader-unique : (run : RefT (List ℕ)) (at : ℕ) {r q : Reader} → r ≡ readerAt run at → q ≡ readerAt run at → r ≡ q
 reader-unique run at p q = unique p q
 
--- The length of a record of a kind.
+-- The length for a kind (`length_of`).
 pub length-unique : (kind : ℕ) {n m : ℕ} → n ≡ lengthOf kind → m ≡ lengthOf kind → n ≡ m
 length-unique kind p q = unique p q

@@ -1,5 +1,5 @@
--- Laws of refusals: each test of a call says its sentence, the code is the number of the first that refuses, and a refusal
--- leaves the bytes.
+-- Laws of refusals: each test of a call decides its sentence, the code is the number of the first
+-- test that refuses, and a refusal changes no byte.
 use Prim.Native.Nat.{ℕ, zero, suc, _+_, _≤_, _<_}
 use mathlib.Core.Bool.{Bool, true, false, cond, not, _&&_, false≢true}
 use mathlib.Core.List.{List, [], _∷_, _++_}
@@ -156,7 +156,7 @@ abbrev behind : List Sentence → List Sentence
 behind [] = []
 behind (s ∷ ss) = ss
 
--- 9 is the number of the first sentence only, and the least.
+-- Only the first sentence has number 9, and 9 is the least number.
 pub nine-only : (b r a : List ℕ) → FirstHolds 9 (sentences b r a) → (length b ≡ 49_216) × (length a ≡ 144) → ⊥
 nine-only b r a (inl h) w = h .0 w
 nine-only b r a (inr h) w = omega (arith, first-number 9 (behind (sentences b r a)) (rule-numbered b r) (h .1) .0)
@@ -187,7 +187,7 @@ abbrev pub outcomeCode : Outcome → ℕ
 outcomeCode (refused n) = numberOf (refusalOf n)
 outcomeCode (accepted d items) = codeOf (ownOf (accepts items))
 
--- An outcome that is refused exactly by the first sentence that holds has the number of that sentence.
+-- If an outcome is refused m exactly if m's sentence is the first that holds, its code is the number of that sentence.
 outcome-exactly : (n : ℕ) → 9 ≤ n → (o : Outcome) (ss : List Sentence) → numbered ss ≡ true →
     ((m : ℕ) → (o ≡ refused m) ↔ FirstHolds m ss) → (outcomeCode o ≡ n) ↔ FirstHolds n ss
 outcome-exactly n l (refused m) ss k by =
@@ -208,7 +208,7 @@ abbrev pub firstOf : List Rule → ℕ → ℕ
 firstOf [] x = x
 firstOf (t ∷ ts) x = cond (t .when) (t .number) (firstOf ts x)
 
--- It is that of the first sentence that holds.
+-- It is the number of the first sentence that holds.
 first-exactly : (n x : ℕ) {ts : List Rule} {ss : List Sentence} (more : List Sentence) → Matches ts ss →
     (x ≡ n) ↔ FirstHolds n more → (firstOf ts x ≡ n) ↔ FirstHolds n (ss ++ more)
 first-exactly n x more done rest = rest
@@ -231,8 +231,8 @@ settled-code : (b p : List ℕ) (d : ℕ) (o : Outcome) → written (onPart b d 
 settled-code b p d (refused n) = refl
 settled-code b p d (accepted e items) = refl
 
--- 9 to 14 by a call's six tests: the lengths are right, the record is well formed, the disk is above 63, the call is an open,
--- the disk is open, its part is sound.
+-- Refusals 9 to 14 by six facts of a call: the lengths are right, the record is well formed, the disk is above 63, the call is
+-- an open, the disk is open, its part is sound.
 abbrev pub tests : (whole formed far opens isOpen sound : Bool) → List Rule
 tests whole formed far opens isOpen sound =
     record { number = 9; when = not whole }
@@ -244,7 +244,7 @@ tests whole formed far opens isOpen sound =
     ∷ []
 
 module _ (b r a : List ℕ) where
-  -- The call's disk and its part; what the law says of an open and of any other call on it; the test of the lengths.
+  -- Names: the call's disk and its part; the law's outcome of an open and of any other call on it; the test of the lengths.
   abbrev d : ℕ
   d = diskNumber r
 
@@ -260,7 +260,7 @@ module _ (b r a : List ℕ) where
   abbrev pub lengths : Bool
   lengths = eqb (length b) boardBytes && eqb (length a) answerSize
 
-  -- The code of a call is the number of the first test that refuses it, or the code of the law's outcome.
+  -- A call's code is the number of the first test that refuses it, otherwise the code of the law's outcome.
   pub code-by : stepOf b r a .code
       ≡ firstOf (tests lengths (wellFormed r) (leb disks d) (eqb (kindByte r) 1) (openAt b d) (soundPart p))
       (cond (eqb (kindByte r) 1) (outcomeCode opened) (outcomeCode served))
@@ -322,14 +322,14 @@ module _ (b r a : List ℕ) where
 
 -- ---- what a refusal leaves and answers
 
--- What holds of a call past 9, and of 9, holds of every call.
+-- Two cases: lengths that 9 does not refuse, and 9.
 pub by-lengths : (b r a : List ℕ) (P : Stepped → Type 0) →
     (length b ≡ boardBytes → length a ≡ answerSize → P (written (effectOf b r))) → P (stepped 9 b a) → P (stepOf b r a)
 unfolding stepOf
 by-lengths b r a P past nine =
     by-test P (lengths b r a) (λ e. let h = says-lengths b r a .0 e in past (h .0) (h .1)) (λ e. nine)
 
--- If it is a refusal, the bytes are as they were.
+-- A refusal leaves the bytes as they were.
 abbrev Leaves : List ℕ → Effect → Type 0
 Leaves b t = 9 ≤ codeOf (ownOf (t .said)) → t .bytes ≡ b
 

@@ -1,5 +1,5 @@
--- Refusals 9 to 21 as 01's sentences over bytes, in the order they apply; the list of them is 01's table. And when a claim that none
--- refuses is granted.
+-- Refusals 9 to 21 as 01's sentences over bytes, in the order they apply: the list is 01's table.
+-- And when a claim that is not refused is granted.
 use Prim.Native.Nat.{ℕ, _≤_, _<_}
 use mathlib.Core.Bool.{true, false, cond}
 use mathlib.Core.List.{List, [], _∷_}
@@ -23,7 +23,7 @@ use Rattle.part.specs.Held.{held}
 
 -- ---- 10: a well-formed record
 
--- The bytes from one index up to another are zero.
+-- The bytes from index `from` up to, but not including, `to` are zero.
 abbrev pub Unused : List ℕ → ℕ → ℕ → Type 0
 Unused r from to = (k : ℕ) → from ≤ k → k < to → byteAt r k ≡ 0
 
@@ -32,7 +32,7 @@ abbrev pub KindFits : List ℕ → Type 0
 KindFits r =
     ((kindByte r ≡ 1) × Unused r 4 7 × Unused r 12 16) ⊎ ((kindByte r ≡ 2) ⊎ ((kindByte r ≡ 3) × Unused r 4 7 × Unused r 16 24))
 
--- What 10 asks of a record: all of these.
+-- A well-formed record, which 10 does not refuse.
 pub record WellFormed (r : List ℕ) : Type 0 where
   pub size : length r ≡ 24
   pub mark : (byteAt r 0 ≡ 0x52) × (byteAt r 1 ≡ 0x42)
@@ -42,14 +42,14 @@ pub record WellFormed (r : List ℕ) : Type 0 where
 
 -- ---- 14: a sound part
 
--- It decodes, and the disk that it holds is sound.
+-- The part decodes, and the disk that it holds is sound.
 pub record SoundPart (p : List ℕ) : Type 0 where
   pub whole : decodes p ≡ true
   pub holds : Sound diskTable (held p)
 
 -- ---- the sentences
 
--- 15 to 21: those of an open, or of the claim or release on the disk that the part holds.
+-- 15 to 21: the sentences of an open, or of the claim or release on the disk that the part holds.
 abbrev pub ruleSentences : List ℕ → List ℕ → List Sentence
 ruleSentences b r =
     cond (eqb (kindByte r) 1)
@@ -82,10 +82,10 @@ pub record Grants (s : Core) (waiting : List Claim) (c : Claim) : Type 0 where
   pub passes : lockStep diskTable s c ≡ true
   pub place : length (s .active) < 8
 
--- The claim of a record is granted on that disk, at its second and with the disk's next ticket.
+-- The record's claim is granted on the disk d, at the record's second and with the disk's next ticket.
 abbrev pub GrantsOn : LawDisk → List ℕ → Type 0
 GrantsOn d r = Grants (at d (askedIn r .now)) (d .waiting) (asked d (askedIn r))
 
--- It is granted on the disk that its part holds.
+-- The record's claim is granted on the disk that its part of the board holds.
 abbrev pub GrantsIn : List ℕ → List ℕ → Type 0
 GrantsIn b r = GrantsOn (held (partOf b (diskNumber r))) r

@@ -1,4 +1,4 @@
--- Laws of lists: some element of a list.
+-- Laws of lists: a fact of some element.
 use mathlib.Core.List.{List, [], _∷_, _++_}
 use mathlib.Core.Logic.{inl, inr}
 use Rattle.promises.specs.Asks.{Some}

@@ -1,4 +1,4 @@
--- Laws of tickets over bytes: a claim takes the next ticket of its disk, every other call takes none, and the next never falls.
+-- Laws of tickets over bytes: a claim takes the next ticket of its disk, every other call takes none, and the next ticket never falls.
 use Prim.Native.Nat.{ℕ, _+_, _≤_, _<_}
 use mathlib.Core.Bool.{Bool, true, false, cond}
 use mathlib.Core.List.{List, [], _∷_, _++_}
@@ -24,7 +24,7 @@ use Rattle.promises.specs.TurnLaws.{Turn, stays, opens, serves, turn, ow
 
 -- ---- tickets that rise
 
--- Where m was the next ticket these were taken, each higher than the one before it, and then n is the next.
+-- The tickets ts were taken while the next ticket went from m to n, each higher than the one before it.
 pub record Rises (m : ℕ) (ts : List ℕ) (n : ℕ) : Type 0 where
   pub above : All (λ t. m ≤ t) ts
   pub below : All (λ t. t < n) ts
@@ -64,7 +64,7 @@ call-rises d (releases now n) =
 
 -- ---- one call on a board
 
--- The next ticket of an open disk; a shut one has none.
+-- The next ticket of an open disk; 0 for a shut one.
 abbrev nextOn : List ℕ → ℕ → ℕ
 nextOn b d = cond (openAt b d) (held (partOf b d) .next) 0
 
@@ -81,7 +81,7 @@ module _ (h : History) (k : BoardCall) (w : Whole h) (bs : BytesIn k) where
   abbrev c : List ℕ
   c = stepBy (h .board) k .bytes
 
-  -- The tickets taken on a disk are those of the items said on it.
+  -- The tickets taken on a disk, by the items said on it.
   took-items : (d : ℕ) → tookOn b k d ≡ tookBy (itemsOn b k d)
   took-items d = go (eqb d dk)
     where

@@ -1,4 +1,4 @@
--- Laws of grants: no claim becomes active but by an item that says so, and what it was told stays with it.
+-- Laws of grants: every active claim was granted by an item, and keeps the told sum of that item.
 use Prim.Native.Nat.{ℕ}
 use mathlib.Core.List.{List, [], _∷_, _++_, append-assoc}
 use mathlib.Core.Logic.{inl}
@@ -16,13 +16,13 @@ use Rattle.law.specs.DiskType.{diskTable}
 use Rattle.promises.specs.Asks.{WasGranted}
 use Rattle.promises.specs.SomeLaws.{some-left, some-right}
 
--- More was said since.
+-- This stays so when more is said.
 more-granted : (past new : List Item) (ws : List Claim) → All (WasGranted past) ws → All (WasGranted (past ++ new)) ws
 more-granted past new ws h =
     all-say (WasGranted past) (WasGranted (past ++ new))
     (λ c. some-left (λ i. (i .code ≡ 0) × ((i .ticket ≡ c .ticket) × (i .told ≡ c .told))) past new) ws h
 
--- A grant: those that were active, and the new one by its own item.
+-- After a grant: the claims active before, and the new one by its own item.
 grant-granted : (past : List Item) (s : Core) (c : Claim) → All (WasGranted past) (s .active) →
     All (WasGranted (past ++ (grantItem diskTable s c ∷ []))) (grant diskTable s c .active)
 unfolding grant grantItem
@@ -32,7 +32,7 @@ grant-granted past s c h =
     (some-right (λ i. (i .code ≡ 0) × ((i .ticket ≡ c .ticket) × (i .told ≡ asGranted diskTable s c .told))) past (grantItem diskTable s c ∷ [])
     (inl (refl, (refl, refl))))
 
--- Every call keeps it.
+-- Every call keeps this.
 call-granted : (h : History) (k : Call) → All (WasGranted (h .past)) (h .disk .core .active) →
     After (λ d items. All (WasGranted (h .past ++ items)) (d .core .active)) (answered diskTable (h .disk) k)
 unfolding finish
@@ -53,7 +53,7 @@ call-granted h (releases now n) g =
     (more-granted (h .past) (item 2 n ∷ []) (without n (h .disk .core .active))
     (all-without (WasGranted (h .past)) n (h .disk .core .active) g)))
 
--- So any calls from an opened disk do.
+-- So it holds after any calls from an opened disk.
 pub lived-granted : (now l0 l1 : ℕ) (ks : List Call) →
     All (WasGranted (lived diskTable (begun now l0 l1) ks .past)) (lived diskTable (begun now l0 l1) ks .disk .core .active)
 unfolding opened

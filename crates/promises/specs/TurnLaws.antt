@@ -1,4 +1,4 @@
--- Laws: what one call does to each disk of a board of the right length. It leaves the disk as it was, or opens it, or is served on it.
+-- Laws: what one call does to each disk of a board of the right length. It leaves the disk as it was, opens it, or is served on it.
 use Prim.Native.Nat.{ℕ, _≤_, _<_}
 use mathlib.Core.Bool.{Bool, true, false}
 use mathlib.Core.List.{List, [], _∷_}
@@ -55,7 +55,7 @@ module _ (b : List ℕ) (k : BoardCall) where
     unfolding stepOf saidBy
     unheard e = none (rw (eq-eqb (length b) boardBytes size, e)) (rw (eq-eqb (length b) boardBytes size, e))
 
-    -- With one of its length the call is told.
+    -- With an answer buffer of the right length, the call has its effect.
     module _ (e : eqb (length (k .buffer)) answerSize ≡ true) where
       bytes-are : (t : Effect) → effectOf b r ≡ t → stepBy b k .bytes ≡ t .bytes
       unfolding stepOf

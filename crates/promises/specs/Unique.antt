@@ -22,13 +22,13 @@ use Rattle.desk.specs.declared.board.Count.{Count}
 use Rattle.desk.specs.Counts.{countOf}
 use Rattle.desk.specs.Step.{Stepped, stepped, stepOf}
 
--- One law for every function that says its result by an equation.
+-- One law for every function whose promise is an equation.
 pub unique : {A : Type 0} {x y z : A} → x ≡ z → y ≡ z → x ≡ y
 unique p q = p ∙ sym q
 
 -- ---- the call
 
--- Its code, the board and the answer buffer at the end.
+-- The code, and the board and answer buffer at the end.
 pub step-unique : (b r a : List ℕ) {n m : ℕ} {c d e f : List ℕ} → stepped n c e ≡ stepOf b r a → stepped m d f ≡ stepOf b r a →
     (n ≡ m) × ((c ≡ d) × (e ≡ f))
 step-unique b r a p q = (
@@ -40,7 +40,7 @@ step-unique b r a p q = (
 pub count-unique : (b : List ℕ) {n m : Count} → n ≡ countOf b → m ≡ countOf b → n ≡ m
 count-unique b p q = unique p q
 
--- The fields of a claim, which are said through the law's request: field by field.
+-- The fields of a claim, stated as the law's request, field by field.
 pub asked-unique : {x y : Asked} {q : LawAsked} → askedOf x ≡ q → askedOf y ≡ q → x ≡ y
 asked-unique p q =
     ap
@@ -58,7 +58,7 @@ asked-unique p q =
 
 -- ---- the decision
 
--- Whether it is granted, and its total.
+-- Whether the claim is granted, and its total.
 pub decided-unique : {ok yes : Bool} {n m : ℕ} {s : Core} {ahead : List Claim} {c : Claim} → DecidedIs ok n s ahead c → DecidedIs yes m s ahead c →
     (ok ≡ yes) × (n ≡ m)
 decided-unique {ok} {yes} {n} {m} x y = (unique (x .says) (y .says), total ok refl)
@@ -69,7 +69,7 @@ decided-unique {ok} {yes} {n} {m} x y = (unique (x .says) (y .says), total ok re
 
 -- ---- the soundness test
 
--- Whether a disk is sound, and what is handed on of it.
+-- Whether a disk is sound, and the numbers handed on.
 pub seen-unique : (d : LawDisk) {ok yes b : Bool} {n m k l t u : ℕ} →
     ok ≡ b → (ok ≡ true → SeenIs n k t d) → (ok ≡ false → Nothing n k t) →
     yes ≡ b → (yes ≡ true → SeenIs m l u d) → (yes ≡ false → Nothing m l u) → (ok ≡ yes) × (n ≡ m) × (k ≡ l) × (t ≡ u)
@@ -81,20 +81,20 @@ seen-unique d {ok} {yes} {b} {n} {m} {k} {l} {t} {u} e f g h i j =
     handed true q = let r = unique h e ∙ q in (unique (f q .0) (i r .0), unique (f q .1) (i r .1), unique (f q .2) (i r .2))
     handed false q = let r = unique h e ∙ q in (unique (g q .0) (j r .0), unique (g q .1) (j r .1), unique (g q .2) (j r .2))
 
--- ---- bytes that are said through what they hold
+-- ---- bytes that are stated by what they hold
 
--- Eight slots through their claims.
+-- Eight slots, stated by their claims.
 pub slots-unique : {r s : List ℕ} {cs : List Claim} → Canonical r → slots 8 r ≡ cs → Canonical s → slots 8 s ≡ cs → r ≡ s
 slots-unique k p l q = sym k ∙ ap inSlots (unique p q) ∙ l
 
--- Eight slots through a list of claims and its length.
+-- Eight slots, stated by a list of claims and its length.
 pub row-unique : {r s : List ℕ} {n : ℕ} {ws : List Claim} → Canonical r → RowIs (slots 8 r) n ws → Canonical s → RowIs (slots 8 s) n ws → r ≡ s
 row-unique k p l q = slots-unique k (row-padded (p .row) (p .list) ∙ sym (row-padded (q .row) (q .list))) l refl
 
--- A part through the disk of the law for which its disk stands.
+-- A part, stated by the law's disk that it holds.
 pub part-unique : {p q : List ℕ} {d : LawDisk} → Holds p (decode p) → DiskIs (decode p) d → Holds q (decode q) → DiskIs (decode q) d → p ≡ q
 part-unique h x k y = unique (holds-part h x) (holds-part k y)
 
--- The answer buffer through the grants behind the one answer that it held.
+-- The answer buffer, stated by the grants behind the one answer that it held.
 pub behind-unique : (grants : List Answer) {a b c : List ℕ} → OwnOnly a → Behind a grants b → Behind a grants c → b ≡ c
 behind-unique grants o p q = unique (p (o .own) (o .is)) (q (o .own) (o .is))
