@@ -30,7 +30,7 @@ pieces-join s = joined-from (length s) s 0 (omega arith)
 pub byte-once : (s : List ℕ) (i : ℕ) → i < length s → having i (spans s) ≡ 1
 byte-once s i h = having-one (length s) i s 0 (omega arith) (omega arith) h
 
--- From any position the walk ends, after at most as many pieces as the run has bytes.
+-- From any place the walk ends, after at most as many pieces as the run has bytes.
 pub walk-ends : (s : List ℕ) (at : ℕ) → pieceAt s (walked (length s) s at) ≡ End
 walk-ends s at = piece-end s (walked (length s) s at) (walked-to-end (length s) s at (omega arith))
 
@@ -109,11 +109,11 @@ short-refused b s a at to e whole size =
 
 -- ---- any two results are equal
 
--- The piece at a position (`next`, `piece_in`).
+-- The piece at a place (`next`, `piece_in`).
 pub piece-unique : (s : List ℕ) (at : ℕ) {p q : Piece} → p ≡ pieceAt s at → q ≡ pieceAt s at → p ≡ q
 piece-unique s at p q = unique p q
 
--- A reader at a position (`new`, `moved`).
+-- A reader at a place (`new`, `moved`).
 pub reader-unique : (run : RefT (List ℕ)) (at : ℕ) {r q : Reader} → r ≡ readerAt run at → q ≡ readerAt run at → r ≡ q
 reader-unique run at p q = unique p q
 
