@@ -1,4 +1,4 @@
--- Laws of the answers: a refusal and its number give each other, the buffer is 144 bytes, and one grant more is one item put.
+-- Laws of the answers: a refusal and its number determine each other, the buffer has 144 bytes, and one more grant is one more item.
 use Prim.Native.Nat.{ℕ, zero, suc, _+_, _*_, _-_, _≤_, _<_}
 use mathlib.Core.Bool.{true}
 use mathlib.Core.List.{List, [], _∷_, _++_, append-assoc, append-nil}
@@ -32,7 +32,7 @@ use Rattle.answer.specs.Answers.{
 
 -- ---- refusals and their numbers
 
--- Each is that of its number, and its number is 9 to 21.
+-- Each refusal is the one that its number gives, and its number is 9 to 21.
 each : (r : Refusal) → (refusalOf (numberOf r) ≡ r) × (leb 9 (numberOf r) ≡ true) × (leb (numberOf r) 21 ≡ true)
 unfolding refusalOf
 each R.Length = (refl, refl, refl)
@@ -55,7 +55,7 @@ number-refusal r = each r .0
 pub number-range : (r : Refusal) → (9 ≤ numberOf r) × (numberOf r ≤ 21)
 number-range r = (leb-true 9 (numberOf r) (each r .1), leb-true (numberOf r) 21 (each r .2))
 
--- The first n numbers from 9 on are those of their refusals.
+-- The first n numbers from 9 on are the numbers of the refusals that they give.
 abbrev Back : ℕ → Type 0
 Back zero = Unit
 Back (suc n) = (numberOf (refusalOf (9 + n)) ≡ 9 + n) × Back n
@@ -114,7 +114,7 @@ drop-zeros m n =
     ap (drop {A = ℕ} m) (sym (replicate-append-replicate m n 0))
     ∙ drop-at (replicate m 0) (replicate n 0) m (length-replicate {A = ℕ} m 0)
 
--- A run over the first bytes of what is behind a front, all zero, leaves the rest zero.
+-- Bytes put over the first of the zeros behind a front leave the other zeros.
 over-zeros : (front vs : List ℕ) (i n : ℕ) → length front ≡ i →
     splice (front ++ replicate (length vs + n) 0) i vs ≡ front ++ (vs ++ replicate n 0)
 over-zeros front vs i n h =
@@ -124,14 +124,14 @@ over-zeros front vs i n h =
     let behind : drop (length front + length vs) (front ++ zs) ≡ replicate n 0 = drop-append-add front zs (length vs) ∙ drop-zeros (length vs) n in
     rw (splice-eq (front ++ zs) i vs fits, take-at front zs i h, ← h, behind)
 
--- An item put into a clear buffer is an answer with no grant behind it.
+-- An item put into a buffer of zeros is an answer without grants.
 pub alone : (a : Answer) → splice (replicate 144 0) 0 (itemBytes a) ≡ answerBytes a []
 unfolding itemsBytes answerBytes
 alone a =
     let wide : length (itemBytes a) + 128 ≡ 144 = omega (arith, length-item a) in
     rw wide at (over-zeros [] (itemBytes a) 0 128 refl)
 
--- The next grant is put right behind those that are there.
+-- The next grant is put right behind the grants that are there.
 pub one-more : (a : Answer) (gs : List Answer) (g : Answer) → length gs < 8 →
     splice (answerBytes a gs) (16 + 16 * length gs) (itemBytes g) ≡ answerBytes a (gs ++ (g ∷ []))
 unfolding answerBytes
@@ -159,6 +159,6 @@ unfolding itemBytes flat
 item-code a =
     word-le4 (codeOf a) (flat (ticketOf a ∷ wordOf (toldOf a) ∷ amountOf a ∷ [])) (omega (arith, code-most a))
 
--- Two answers of the same bytes have the same code.
+-- Two answers with the same bytes have the same code.
 pub item-one : (a b : Answer) → itemBytes a ≡ itemBytes b → codeOf a ≡ codeOf b
 item-one a b e = sym (item-code a) ∙ (ap (λ (s : List ℕ). wordAt s 0) e ∙ item-code b)

@@ -30,7 +30,7 @@ numberOf R.NoTicket = 19
 numberOf R.Full = 20
 numberOf R.Ticket = 21
 
--- The refusal of a number; of a number that no other has, 21's.
+-- The refusal with number n; any other number gives `Ticket`.
 unfoldable pub refusalOf : ℕ → Refusal
 refusalOf n =
     cond (eqb n 9) R.Length
@@ -95,11 +95,11 @@ itemsBytes (a ∷ more) = itemBytes a ++ itemsBytes more
 unfoldable pub answerBytes : Answer → List Answer → List ℕ
 answerBytes own grants = itemBytes own ++ (itemsBytes grants ++ replicate (128 - 16 * length grants) 0)
 
--- A buffer in which one answer stands alone.
+-- The buffer holds an answer and no grants.
 pub record OwnOnly (s : List ℕ) : Type 0 where
   pub own : Answer
   pub is : s ≡ answerBytes own []
 
--- Where an answer stands alone in the buffer s, it stands with these grants behind it in t.
+-- If s holds an answer and no grants, t holds the same answer followed by these grants.
 abbrev pub Behind : List ℕ → List Answer → List ℕ → Type 0
 Behind s grants t = (own : Answer) → s ≡ answerBytes own [] → t ≡ answerBytes own grants

@@ -1,3 +1,3 @@
--- Answers and refusals: this paper's number and values of each, and their bytes; then laws.
+-- Answers and refusals: 01's number and values for each, and their bytes; then laws.
 pub mod Answers
 pub mod AnswerLaws

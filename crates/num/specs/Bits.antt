@@ -22,17 +22,17 @@ pub bit-zero : (a : ℕ) → hasBit 0 a ≡ false
 unfolding hasBit
 bit-zero a = rw zero-div
 
--- What holds of 0 and of 1 holds of a bit.
+-- Two cases: a bit is 0 or 1.
 by-bit : (P : ℕ → Type 0) → P 0 → P 1 → (r : ℕ) → r < 2 → P r
 by-bit P none one zero h = none
 by-bit P none one (suc zero) h = one
 by-bit P none one (suc (suc r)) h = absurd (omega arith)
 
--- Either bit, joined with 1, is 1.
+-- A bit joined with 1 (bitOr) is 1.
 or-one : (r : ℕ) → r < 2 → bitOr r 1 ≡ 1
 or-one = by-bit (λ r. bitOr r 1 ≡ 1) refl refl
 
--- A bit that is set is there.
+-- Bit a is set after it was joined.
 pub bit-set : (m a : ℕ) → hasBit (bitOr m (2 ^ a)) a ≡ true
 unfolding hasBit
 bit-set m a = rw (or-shr m (2 ^ a) a, div-self (pow-pos a), or-mod (m / 2 ^ a) 1 1, or-one (m / 2 ^ a % 2) (omega arith))
@@ -43,7 +43,7 @@ high-bit a b h =
     let e : a ≡ suc k + b = omega arith in
     rw (e, pow-add 2 (suc k) b, shl-shr, pow-suc, mul-mod-left)
 
--- A power of 2 has no other bit.
+-- 2 ^ a has no bit but a.
 power-bit : (a b : ℕ) → a ≢ b → 2 ^ a / 2 ^ b % 2 ≡ 0
 power-bit a b n =
     ⊎-elim
@@ -51,22 +51,22 @@ power-bit a b n =
     (λ (l : 0 < a - b). high-bit a b (omega arith))
     (eq-zero-or-pos (a - b))
 
--- Any other bit is as it was.
+-- Joining bit a leaves every other bit as it was.
 pub bit-set-other : (m a b : ℕ) → a ≢ b → hasBit (bitOr m (2 ^ a)) b ≡ hasBit m b
 unfolding hasBit
 bit-set-other m a b n = rw (or-shr m (2 ^ a) b, or-mod (m / 2 ^ b) (2 ^ a / 2 ^ b) 1, power-bit a b n, or-zero-r)
 
--- Only two zeros join to 0.
+-- bitOr is 0 only if both numbers are 0.
 pub or-none : (a b : ℕ) → bitOr a b ≡ 0 → (a ≡ 0) × (b ≡ 0)
 or-none a b e =
     (omega (arith, e, or-add-and a b, and-le-r a b), omega (arith, e, or-add-and a b, and-le-l a b))
 
--- A bit of both is one of each.
+-- bitAnd of two bits is 1 exactly if both are.
 and-one : (r s : ℕ) → r < 2 → s < 2 → eqb (bitAnd r s) 1 ≡ (eqb r 1 && eqb s 1)
 and-one r s h k =
     by-bit (λ r. eqb (bitAnd r s) 1 ≡ (eqb r 1 && eqb s 1)) refl (by-bit (λ s. eqb (bitAnd 1 s) 1 ≡ eqb s 1) refl refl s k) r h
 
--- Either bit of two.
+-- bitOr of two bits is 1 exactly if one of them is.
 or-two : (r s : ℕ) → r < 2 → s < 2 → eqb (bitOr r s) 1 ≡ (eqb r 1 || eqb s 1)
 or-two r s h k =
     by-bit (λ r. eqb (bitOr r s) 1 ≡ (eqb r 1 || eqb s 1)) (by-bit (λ s. eqb (bitOr 0 s) 1 ≡ eqb s 1) refl refl s k)
@@ -82,7 +82,7 @@ unfolding hasBit
 bit-both m n a =
     rw (and-shr m n a, and-mod (m / 2 ^ a) (n / 2 ^ a) 1) (and-one (m / 2 ^ a % 2) (n / 2 ^ a % 2) (omega arith) (omega arith))
 
--- Of two masks that share no bit, one has none that the other has.
+-- If two masks share no bit, a bit of one is not set in the other.
 pub apart-bits : (m n a : ℕ) → bitAnd m n ≡ 0 → hasBit m a ≡ true → hasBit n a ≡ false
 apart-bits m n a e h =
     let none : (hasBit m a && hasBit n a) ≡ false = sym (bit-both m n a) ∙ ap (λ (x : ℕ). hasBit x a) e ∙ bit-zero a in
@@ -93,7 +93,7 @@ bit-half : (m a : ℕ) → hasBit m (1 + a) ≡ hasBit (m / 2) a
 unfolding hasBit
 bit-half m a = rw (← shr-shr m 1 a)
 
--- A number without a bit is 0.
+-- A number with no bit set is 0.
 pub bits-none : (n : ℕ) → ((a : ℕ) → hasBit n a ≡ false) → n ≡ 0
 unfolding hasBit
 bits-none =
@@ -104,7 +104,7 @@ bits-none =
     let even : n % 2 ≡ 1 → ⊥ = λ e. odd (ap (λ (x : ℕ). x % 2) (div-one n) ∙ e) in
     ⊎-elim (λ (e : n % 2 ≡ 0). omega (arith, half, e)) (λ (l : 0 < n % 2). absurd (even (omega arith))) (eq-zero-or-pos (n % 2)))
 
--- A mask joined with another shares no bit with a third where neither does.
+-- If neither m nor n shares a bit with k, their join does not.
 pub or-apart : (m n k : ℕ) → bitAnd m k ≡ 0 → bitAnd n k ≡ 0 → bitAnd (bitOr m n) k ≡ 0
 or-apart m n k e f = bits-none (bitAnd (bitOr m n) k) (λ a. bit-both (bitOr m n) k a ∙ ap (λ (b : Bool). b && hasBit k a) (bit-either m n a) ∙ neither (hasBit m a) (hasBit n a) (hasBit k a) (gone m e a) (gone n f a))
   where
@@ -123,7 +123,7 @@ first-bit : (m : ℕ) → countTo (hasBit m) 1 ≡ m % 2
 unfolding hasBit countTo
 first-bit m = rw (div-one m) (omega (arith, lowest (m % 2) (omega arith)))
 
--- The set bits of a number of n bits, counted one by one, are those that the machine counts.
+-- The machine's count `ones` of an n-bit number is the number of its set bits.
 pub ones-count : (n m : ℕ) → m < 2 ^ n → ones m ≡ countTo (hasBit m) n
 unfolding countTo ones
 ones-count zero m h = rw (lt-one h)

@@ -1,5 +1,5 @@
--- Laws of the integers, for `omega`, which reads naturals only. An integer z is `up z` less `down z`, of which one is 0;
--- each operation has one equation over these two parts, and the equations of the terms at hand go into `omega`'s list.
+-- Laws of the integers, for `omega`, which reads naturals only. An integer z is `up z` − `down z`, and one of the two is 0.
+-- Each operation has one equation over these two; a proof hands `omega` the equations of its terms.
 use Prim.Native.Nat.{ℕ, zero, suc, _+_, _-_, _≤_}
 use mathlib.Core.Bool.{Bool, true, false, cond}
 use mathlib.Core.Path.{_≡_, refl, ap}
@@ -9,12 +9,12 @@ use lib.Dec.{ltb}
 use lib.IntN.{ℤ, pos, negsuc, negℤ, natAbs, _+ℤ_, _-ℤ_}
 use lib.Signed.{mag}
 
--- What an integer has above 0.
+-- How far an integer is above 0.
 unfoldable pub up : ℤ → ℕ
 up (pos n) = n
 up (negsuc n) = 0
 
--- What an integer has below 0.
+-- How far an integer is below 0.
 unfoldable pub down : ℤ → ℕ
 down (pos n) = 0
 down (negsuc n) = suc n
@@ -42,7 +42,7 @@ unfolding down
 down-mag (pos n) = omega arith
 down-mag (negsuc n) = omega arith
 
--- Two integers with the same parts are the same.
+-- Two integers with equal `up` − `down` are equal.
 pub same : (a b : ℤ) → up a + down b ≡ up b + down a → a ≡ b
 unfolding up down
 same (pos m) (pos n) e = ap pos (omega arith)
@@ -50,7 +50,7 @@ same (pos m) (negsuc n) e = absurd (omega arith)
 same (negsuc m) (pos n) e = absurd (omega arith)
 same (negsuc m) (negsuc n) e = ap negsuc (omega arith)
 
--- The difference of two naturals, by the test that tells its sign.
+-- The difference a − b of two naturals, by the test a < b.
 less-is : (t : Bool) (a b : ℕ) → ltb a b ≡ t →
     up (cond t (negsuc (b - suc a)) (pos (a - b))) + b ≡ down (cond t (negsuc (b - suc a)) (pos (a - b))) + a
 unfolding up down

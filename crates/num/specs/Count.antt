@@ -1,4 +1,4 @@
--- A count of the numbers below a bound that pass a test, with its laws.
+-- How many numbers below a bound pass a test, with its laws.
 use Prim.Native.Nat.{ℕ, zero, suc, _+_, _≤_, _<_}
 use mathlib.Core.Bool.{Bool, true, false, cond}
 use mathlib.Core.Logic.{_≢_, ⊎-elim}
@@ -17,7 +17,7 @@ unfolding countTo
 count-same p q zero h = refl
 count-same p q (suc n) h = rw (count-same p q n (λ i k. h i (omega arith)), h n (omega arith))
 
--- A count goes on at m.
+-- The count up to m + n: the count up to m, plus the count of the n numbers from m on.
 pub count-add : (p : ℕ → Bool) (m n : ℕ) → countTo p (m + n) ≡ countTo p m + countTo (λ i. p (m + i)) n
 unfolding countTo
 count-add p m zero = rw (add-zero m) (omega arith)

@@ -1,4 +1,4 @@
--- The open word: eight bytes, one bit for each disk, which say what disks are open. Disk d is bit d mod 8 of byte d div 8.
+-- The open word: eight bytes, one bit for each disk, set if the disk is open. Disk d is bit d mod 8 of byte d div 8.
 use Prim.Native.Nat.{ℕ, _+_, _*_, _/_, _%_, _^_}
 use mathlib.Core.Bool.{Bool}
 use mathlib.Core.List.{List}
@@ -12,7 +12,7 @@ use Rattle.num.specs.Word.{wordAt}
 unfoldable pub openAt : List ℕ → ℕ → Bool
 openAt s d = hasBit (getD s (d / 8) 0) (d % 8)
 
--- The bytes with a disk opened.
+-- The bytes with the disk's bit set.
 unfoldable pub setOpen : List ℕ → ℕ → List ℕ
 setOpen s d = set s (d / 8) (bitOr (getD s (d / 8) 0) (2 ^ (d % 8)))
 

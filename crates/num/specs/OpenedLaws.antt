@@ -1,4 +1,4 @@
--- Laws of the open word: what opening a disk changes, and the count of the open disks.
+-- Laws of the open word: what opening a disk changes, and the count of open disks.
 use Prim.Native.Nat.{ℕ, zero, suc, _+_, _*_, _/_, _%_, _^_, _≤_, _<_}
 use mathlib.Core.Bool.{true, false}
 use mathlib.Core.List.{List}
@@ -58,7 +58,7 @@ module _ (s : List ℕ) (d : ℕ) (disk : d < 64) (eight : 8 ≤ length s) where
   pub open-set-other : (e : ℕ) → e ≢ d → openAt (setOpen s d) e ≡ openAt s e
   open-set-other e n = same-byte e n (ℕ-discrete (e / 8) (d / 8))
 
-  -- One more is open where the disk was shut.
+  -- One more disk is open, if this one was shut.
   pub count-set-shut : openAt s d ≡ false → openCount (setOpen s d) ≡ openCount s + 1
   unfolding openCount
   count-set-shut shut =
@@ -68,7 +68,7 @@ module _ (s : List ℕ) (d : ℕ) (disk : d < 64) (eight : 8 ≤ length s) where
   same-disk was e (yes p) = rw p (open-set-same ∙ sym was)
   same-disk was e (no n) = open-set-other e n
 
-  -- As many are open where it was open already.
+  -- The count stays, if it was open already.
   pub count-set-open : openAt s d ≡ true → openCount (setOpen s d) ≡ openCount s
   unfolding openCount
   count-set-open was = count-same (openAt (setOpen s d)) (openAt s) 64 (λ e k. same-disk was e (ℕ-discrete e d))
@@ -77,7 +77,7 @@ pub open-count-most : (s : List ℕ) → openCount s ≤ 64
 unfolding openCount
 open-count-most s = count-most (openAt s) 64
 
--- The eight bytes alone say what is open.
+-- The eight bytes alone decide which disks are open.
 module _ (s t : List ℕ) (same : (k : ℕ) → k < 8 → getD s k 0 ≡ getD t k 0) where
   pub open-same : (d : ℕ) → d < 64 → openAt s d ≡ openAt t d
   unfolding openAt
@@ -87,7 +87,7 @@ module _ (s t : List ℕ) (same : (k : ℕ) → k < 8 → getD s k 0 ≡ getD t 
   unfolding openCount
   open-count-same = count-same (openAt s) (openAt t) 64 open-same
 
--- Where they are zero all disks are shut.
+-- If they are zero, all disks are shut.
 module _ (s : List ℕ) (zeros : (k : ℕ) → k < 8 → getD s k 0 ≡ 0) where
   pub open-none : (d : ℕ) → d < 64 → openAt s d ≡ false
   unfolding openAt
@@ -97,12 +97,12 @@ module _ (s : List ℕ) (zeros : (k : ℕ) → k < 8 → getD s k 0 ≡ 0) where
   unfolding openCount
   open-count-none = count-none (openAt s) 64 open-none
 
--- The set bits of the first k bytes.
+-- The number of set bits in the first k bytes.
 onesTo : List ℕ → ℕ → ℕ
 onesTo s zero = 0
 onesTo s (suc k) = onesTo s k + ones (getD s k 0)
 
--- The low k bits and those above are counted apart.
+-- The set bits of a number are those of its low k bits and those above.
 ones-low : (k a y : ℕ) → a < 2 ^ k → ones (a + y * 2 ^ k) ≡ ones a + ones y
 ones-low k a y h = rw (add-comm a (y * 2 ^ k), ones-cat k y a h) (omega arith)
 
@@ -132,7 +132,7 @@ module _ (s : List ℕ) (bytes : Bytes s) where
         count-bytes k,
       ))
 
-  -- The set bits of the open word are the open disks.
+  -- The number of set bits of the open word is the number of open disks.
   pub ones-open : ones (openWord s) ≡ openCount s
   unfolding openWord openCount onesTo
   ones-open = omega (

@@ -1,4 +1,4 @@
--- Laws of runs of bytes: what is put after another run, over the whole, or into a lent part.
+-- Laws of runs of bytes: a run put behind another run, over a whole list, or into a lent part of it.
 use Prim.Native.Nat.{ℕ, suc, _+_, _-_, _*_, _^_, _≤_, _<_}
 use mathlib.Core.List.{List, [], _∷_, _++_, append-assoc, append-nil}
 use mathlib.Core.Path.{_≡_, refl, sym, ap, _∙_}
@@ -36,14 +36,14 @@ pub flat-one : (x : ℕ) → flat (x ∷ []) ≡ le4 x
 unfolding flat
 flat-one x = append-nil (le4 x)
 
--- A number below 2 ^ 32 is the word of its bytes, whatever stands behind them.
+-- A number below 2 ^ 32 is the word of its bytes, whatever follows them.
 pub word-le4 : (x : ℕ) (rest : List ℕ) → x < 2 ^ 32 → wordAt (le4 x ++ rest) 0 ≡ x
 unfolding wordAt le4
 word-le4 x rest h = omega arith
 
 -- ---- runs put into a list
 
--- To put a word is to put its four bytes.
+-- Putting a word is putting its four bytes.
 pub put-splice : (s : List ℕ) (at x : ℕ) → putWord s at x ≡ splice s at (le4 x)
 unfolding putWord splice le4
 put-splice s at x =
@@ -61,26 +61,26 @@ sets-sets (x ∷ xs) l i ys =
     let h : i + length (x ∷ xs) ≡ suc i + length xs = omega arith in
     ap (λ (k : ℕ). sets (sets (set l i x) (suc i) xs) k ys) h ∙ sets-sets xs (set l i x) (suc i) ys
 
--- A run right behind another is one run.
+-- Two runs, the second right behind the first, are one run.
 pub splice-splice : (l : List ℕ) (i m : ℕ) (xs ys : List ℕ) → i + length xs ≡ m →
     splice (splice l i xs) m ys ≡ splice l i (xs ++ ys)
 unfolding splice
 splice-splice l i m xs ys h = ap (λ (k : ℕ). sets (sets l i xs) k ys) (sym h) ∙ sets-sets xs l i ys
 
--- What stands in the list where a run is put.
+-- The list with a run put into it: what was before it, the run, what was behind it.
 pub splice-eq : (l : List ℕ) (i : ℕ) (vs : List ℕ) → i + length vs ≤ length l →
     splice l i vs ≡ take i l ++ (vs ++ drop (i + length vs) l)
 unfolding splice
 splice-eq l i vs h = sets-eq vs l i h ∙ append-assoc (take i l) vs (drop (i + length vs) l)
 
--- A run over the whole list is that run.
+-- A run put over the whole list is the whole list.
 pub splice-whole : (l vs : List ℕ) → length l ≡ length vs → splice l 0 vs ≡ vs
 splice-whole l vs h =
     splice-eq l 0 vs (omega arith)
     ∙ ap (λ (r : List ℕ). vs ++ r) (drop-of-length-le l {i = 0 + length vs} (omega arith))
     ∙ append-nil vs
 
--- A lent part that comes back with other bytes.
+-- Lending a part that comes back with other bytes is putting these bytes there.
 pub mid-splice : (a e : ℕ) (xs ys : List ℕ) → a ≤ e → e ≤ length xs → length ys ≡ e - a →
     putMid a (e - a) xs ys ≡ splice xs a ys
 mid-splice a e xs ys h g k =
@@ -94,7 +94,7 @@ sets-behind : (vs : List ℕ) (y : ℕ) (l : List ℕ) (j : ℕ) → sets (y ∷
 sets-behind [] y l j = refl
 sets-behind (v ∷ vs) y l j = sets-behind vs y (set l j v) (suc j)
 
--- Behind the first piece, the run is put into the second.
+-- A run put behind the first piece is put into the second.
 pub splice-second : (h z : List ℕ) (i : ℕ) (vs : List ℕ) → splice (h ++ z) (length h + i) vs ≡ h ++ splice z i vs
 unfolding splice
 splice-second [] z i vs = ap (λ (k : ℕ). sets z k vs) (omega arith)
@@ -104,7 +104,7 @@ splice-second (y ∷ h) z i vs =
     ∙ sets-behind vs y (h ++ z) (length h + i)
     ∙ ap {B = List ℕ} (λ r. y ∷ r) (splice-second h z i vs)
 
--- Within the first piece, the second stays.
+-- A run put within the first piece leaves the second as it was.
 pub splice-first : (h z : List ℕ) (i : ℕ) (vs : List ℕ) → i + length vs ≤ length h → splice (h ++ z) i vs ≡ splice h i vs ++ z
 unfolding splice
 splice-first h z i [] l = refl

@@ -1,4 +1,4 @@
--- Runs of bytes: the four bytes of a number, the bytes of a list of words, and a run of bytes in the place of what stood there.
+-- Runs of bytes: the four bytes of a number, the bytes of a list of words, and a list with some of its bytes replaced.
 use Prim.Native.Nat.{ℕ, _+_, _/_, _%_}
 use mathlib.Core.Bool.{Bool, true, _&&_}
 use mathlib.Core.List.{List, [], _∷_, _++_}
@@ -14,7 +14,7 @@ unfoldable pub flat : List ℕ → List ℕ
 flat [] = []
 flat (x ∷ xs) = le4 x ++ flat xs
 
--- The list with these bytes from an index on, in the place of those that stood there.
+-- The list l with its bytes from index i on replaced by vs.
 unfoldable pub splice : List ℕ → ℕ → List ℕ → List ℕ
 splice l i vs = sets l i vs
 

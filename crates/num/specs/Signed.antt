@@ -27,7 +27,7 @@ signedAt s at = signedOf (wordAt s at)
 abbrev pub putSigned : List ℕ → ℕ → ℤ → List ℕ
 putSigned s at z = putWord s at (wordOf z)
 
--- A figure from -2147483648 to 2147483647 is back after its word.
+-- A figure from −2147483648 to 2147483647 is read back from its word.
 pub signed-word : (z : ℤ) → mag z < 2 ^ 31 → signedOf (wordOf z) ≡ z
 unfolding signedOf wordOf
 signed-word z h = toZ-ofZ w32 z (record { sfits = h })

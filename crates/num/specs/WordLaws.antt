@@ -14,7 +14,7 @@ bytes-word : (x : ℕ) → x < 2 ^ 32 →
     word4 (x % 256) (x / 256 % 256) (x / 256 / 256 % 256) (x / 256 / 256 / 256 % 256) ≡ x
 bytes-word x h = omega arith
 
--- The lowest byte of a number, and what stands above it.
+-- The lowest byte of a number, and the rest above it.
 low : (a y : ℕ) → a < 256 → (a + y * 256) % 256 ≡ a
 low a y h = omega arith
 
@@ -38,7 +38,7 @@ module _ (s : List ℕ) (at x : ℕ) where
   unfolding putWord
   length-put = simp length-set
 
-  -- A byte at none of the four places.
+  -- A byte at none of the four indices is as it was.
   other : (k : ℕ) → k ≢ at → k ≢ at + 1 → k ≢ at + 2 → k ≢ at + 3 → getD (putWord s at x) k 0 ≡ getD s k 0
   unfolding putWord
   other k p q r t = rw (getD-set-other, getD-set-other, getD-set-other, getD-set-other)
@@ -72,7 +72,7 @@ module _ (s : List ℕ) (at x : ℕ) where
       let n23 : at + 2 ≢ at + 3 = λ e. omega arith in
       simp (getD-set-other, getD-set-same) (bytes-word x fits)
 
--- To put the word that stands there changes nothing.
+-- Putting the word that is there already changes nothing.
 pub put-word-back : (s : List ℕ) (at : ℕ) → Bytes s → putWord s at (wordAt s at) ≡ s
 unfolding wordAt putWord
 put-word-back s at b =
@@ -87,7 +87,7 @@ pub word-at-fits : (s : List ℕ) (at : ℕ) → Bytes s → wordAt s at < 2 ^ 3
 unfolding wordAt
 word-at-fits s at b = omega (arith, b at, b (at + 1), b (at + 2), b (at + 3))
 
--- A store of a byte leaves bytes.
+-- Storing a byte in a list of bytes leaves a list of bytes.
 pub set-bytes : (s : List ℕ) (i v : ℕ) → Bytes s → v < 256 → Bytes (set s i v)
 set-bytes [] i v b h k = b k
 set-bytes (a ∷ s) zero v b h zero = h

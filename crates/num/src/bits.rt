@@ -15,7 +15,7 @@ pub fn bit(mask: u8, a: u8) -> bool
     (mask >> a) & 1 == 1
 }
 
-// The mask of one bit: that of a number's last six.
+// The mask of one bit, the one that the last six bits of `a` number.
 pub fn bit_of(a: u32) -> u64
     ensures { λ r. ⌜ r ≡ 2 ^ (a % 64) ⌝ }
 {

@@ -1,4 +1,4 @@
-// The open word: the eight bytes that say what disks are open, one bit for each disk.
+// The open word: eight bytes, one bit for each disk, set if the disk is open.
 
 ghost use mathlib.Core.Path.{_≡_};
 ghost use Prim.Native.Nat.{_≤_, _<_};

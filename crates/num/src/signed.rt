@@ -1,4 +1,4 @@
-// Figures: signed words in lent bytes, how large a figure is and how far two lie apart.
+// Figures: signed words in lent bytes, the size of a figure and the distance of two.
 
 ghost use mathlib.Core.Path.{_≡_};
 ghost use Prim.Native.Nat.{_+_, _^_, _≤_, _<_};
@@ -48,7 +48,7 @@ pub fn put_signed(s: &mut [u8], at: usize, z: i32)
     put_word(s, at, to_word(z));
 }
 
-// How large a figure is.
+// The size of a figure: its absolute value.
 pub fn size(z: i32) -> u32
     ensures { λ r. ⌜ r ≡ size z ⌝ }
     ensures { λ r. ⌜ r ≤ 2147483648 ⌝ }
@@ -56,7 +56,7 @@ pub fn size(z: i32) -> u32
     wide_size(z as i64) as u32
 }
 
-// How far two figures lie apart.
+// The distance of two figures.
 pub fn gap(a: i32, b: i32) -> u64
     ensures { λ r. ⌜ r ≡ dist a b ⌝ }
     ensures { λ r. ⌜ r ≤ 4294967295 ⌝ }
@@ -64,7 +64,7 @@ pub fn gap(a: i32, b: i32) -> u64
     wide_size(a as i64 - b as i64)
 }
 
-// How large a figure of 64 bits is; of the least one the negation would not fit.
+// The size of a 64-bit figure; the least one is excluded, since its negation would not fit.
 pub fn wide_size(z: i64) -> u64
     requires { ⌜ size z < 2 ^ 63 ⌝ }
     ensures { λ r. ⌜ r ≡ size z ⌝ }
@@ -72,7 +72,7 @@ pub fn wide_size(z: i64) -> u64
     if z < 0 { (-z) as u64 } else { z as u64 }
 }
 
-// Whether a figure is at most so large.
+// Whether the size of a figure is at most `most`.
 pub fn within(z: i32, most: u32) -> bool
     ensures { λ r. ⌜ r ≡ leb (size z) most ⌝ }
 {
@@ -87,7 +87,7 @@ pub fn plus(a: i32, b: i32) -> i64
     a as i64 + b as i64
 }
 
-// The same figure in 32 bits, which hold it.
+// The same figure in 32 bits; it must fit.
 pub fn narrow(z: i64) -> i32
     requires { ⌜ size z ≤ 2147483647 ⌝ }
     ensures { λ r. ⌜ r ≡ z ⌝ }

@@ -1,4 +1,4 @@
-// Two tests at once: both are made, so that no branch depends on the first.
+// Two tests at once: both are already evaluated, so that no branch depends on the first.
 
 ghost use mathlib.Core.Bool.{_&&_, _||_};
 ghost use mathlib.Core.Path.{_≡_};
@@ -10,7 +10,7 @@ pub fn both(a: bool, b: bool) -> bool
     if a { b } else { false }
 }
 
-// One of them does.
+// At least one test passes.
 pub fn either(a: bool, b: bool) -> bool
     ensures { λ r. ⌜ r ≡ a || b ⌝ }
 {

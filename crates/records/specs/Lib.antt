@@ -1,3 +1,3 @@
--- What a run of records is made of, then laws.
+-- The pieces of a run of records, then laws.
 pub mod Pieces
 pub mod PieceLaws

@@ -1,4 +1,4 @@
--- Laws of pieces: what begins at a place, that every piece moves on, and what the pieces of a run are together.
+-- Laws of pieces: what begins at a place; every piece moves forward; the pieces together are the run.
 use Prim.Native.Nat.{ℕ, zero, suc, _+_, _-_, _≤_, _<_}
 use mathlib.Core.List.{List, _∷_, _++_}
 use mathlib.Core.Logic.{_⊎_, inl, inr, ⊎-elim}
@@ -11,7 +11,7 @@ use lib.Seq.{drop-drop}
 use Rattle.records.specs.declared.Piece.the-variants.{Record, Short, End}
 use Rattle.records.specs.Pieces.{lengthOf, lengthAt, pieceAt, endOf, walked, Span, span, onwards, spansFrom, bytesOf, joined, having}
 
--- A record has its kind, its third byte.
+-- A record is long enough to have its kind, the third byte.
 pub length-least : (kind : ℕ) → 3 ≤ lengthOf kind
 unfolding lengthOf
 length-least kind = omega arith
@@ -52,7 +52,7 @@ module _ (s : List ℕ) (at : ℕ) where
       (λ (h : 0 < length s - at). begun (omega arith))
       (eq-zero-or-pos (length s - at))
 
-  -- A whole record has the length of its kind, within the run.
+  -- A whole record has the length of its kind and ends within the run.
   pub whole-is : (to : ℕ) → pieceAt s at ≡ Record to → (to ≡ at + lengthAt s at) × (to ≤ length s)
   whole-is to e = by-case begins
     where
@@ -61,7 +61,7 @@ module _ (s : List ℕ) (at : ℕ) where
       by-case (whole l h) = let q : to ≡ at + lengthAt s at = cc in (q, omega arith)
       by-case (short l k h) = let z : _≡_ {A = ℕ} 0 1 = cc in absurd (omega arith)
 
-  -- A short piece is all that is left, and too little for a record of its kind.
+  -- A short piece is all that is left, fewer bytes than a record of its kind.
   pub short-is : (to : ℕ) → pieceAt s at ≡ Short to → (to ≡ length s) × ((at < to) × (to < at + lengthAt s at))
   short-is to e = by-case begins
     where
@@ -70,7 +70,7 @@ module _ (s : List ℕ) (at : ℕ) where
       by-case (whole l h) = let z : _≡_ {A = ℕ} 0 1 = cc in absurd (omega arith)
       by-case (short l k h) = let q : to ≡ length s = cc in (q, (omega arith, omega arith))
 
--- A piece begins at a place: it ends further on, within the run, and the pieces go on from there.
+-- A piece begins at `at`: it ends further on, within the run, and the next piece begins at its end.
 record Moves (s : List ℕ) (at : ℕ) : Type 0 where
   to : ℕ
   forward : at < to
@@ -78,7 +78,7 @@ record Moves (s : List ℕ) (at : ℕ) : Type 0 where
   ends : endOf (pieceAt s at) at ≡ to
   goes : (more : ℕ → List Span) → onwards (pieceAt s at) at more ≡ span at to ∷ more to
 
--- The run is at its end there, or a piece begins.
+-- Either the run has ended, or a piece begins.
 moves : (s : List ℕ) (at : ℕ) → Begins s at → (length s ≤ at) ⊎ Moves s at
 moves s at (none l e) = inl l
 moves s at (whole l e) =
@@ -94,7 +94,7 @@ moves s at (short l k e) = inr (record { to = length s; forward = l; within = om
 
 -- ---- the walk ends
 
--- As many pieces as there are bytes left reach the end.
+-- After as many pieces as there are bytes left, the run has ended.
 pub walked-to-end : (n : ℕ) (s : List ℕ) (at : ℕ) → length s ≤ at + n → length s ≤ walked n s at
 unfolding walked
 walked-to-end zero s at h = omega arith
@@ -106,7 +106,7 @@ walked-to-end (suc n) s at h =
 
 -- ---- the pieces of a run, joined
 
--- A piece and what is behind it.
+-- A piece joined with the rest behind it.
 apart : (s : List ℕ) (at to : ℕ) → at ≤ to → bytesOf s (span at to) ++ drop to s ≡ drop at s
 apart s at to h =
     let e : at + (to - at) ≡ to = omega arith in
@@ -128,7 +128,7 @@ joined-from (suc n) s at h =
 
 -- ---- every byte is in one piece
 
--- No piece from a place on has a byte in front of it.
+-- No piece from a place on contains a byte before that place.
 having-none : (n i : ℕ) (s : List ℕ) (at : ℕ) → i < at → having i (spansFrom n s at) ≡ 0
 unfolding spansFrom having
 having-none zero i s at h = refl

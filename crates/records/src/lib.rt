@@ -1,6 +1,6 @@
 // The reader of a run of records: the lent bytes and a place in them. The borrow checker covers no function over a struct that
 // holds a slice, so the functions over `Reader` are few and thin, and each is proved by hand; the work is in `piece_at`, on a
-// plain slice and a number. Whoever has a slice and a place calls `piece_in`.
+// plain slice and a number. A caller that has a slice and a place calls `piece_in`.
 
 ghost use mathlib.Core.Path.{_≡_};
 ghost use Rattle.records.specs.Pieces.{lengthOf, pieceAt, readerAt};
@@ -11,8 +11,8 @@ pub struct Reader<'a> {
     pub at: usize,
 }
 
-// What begins at a place: a whole record, or the short last piece, each with the place where it ends; or nothing, at the end and
-// past it.
+// What begins at a place: a whole record or the short last piece, each with the place where it ends; or nothing, if the place is the
+// end of the run or past it.
 pub enum Piece {
     Record(usize),
     Short(usize),
@@ -52,14 +52,14 @@ pub fn piece_in(run: &[u8], at: usize) -> Piece
     next(moved(new(run), at))
 }
 
-// How many bytes a record of that kind has.
+// The length of a record of that kind.
 pub fn length_of(kind: u8) -> usize
     ensures { λ n. ⌜ n ≡ lengthOf kind ⌝ }
 {
     RECORD_BYTES
 }
 
-// The work: what begins at a place of a slice. A piece too short to have a kind is the short last one.
+// What begins at a place of a slice. A piece too short to have a kind byte is the short last one.
 fn piece_at(run: &[u8], at: usize) -> Piece
     ensures { λ p. ⌜ p ≡ pieceAt (now (run .entry)) at ⌝ }
 {

@@ -1,2 +1,2 @@
--- What is stated of the program.
+-- The definitions by which the program's promises are stated.
 pub mod Rows

@@ -9,12 +9,12 @@ use num::signed::signed_at;
 use num::signed::size;
 use num::word::word_at;
 
-// The codes above this one are refusals.
+// Codes above this one are refusals.
 const OPENED: u32 = 3;
 
 const ITEM_BYTES: usize = 16;
 
-// A refusal has its number; an accepted call its own item, and the grants of its pass on lines of their own.
+// Prints a refusal's number, or an accepted call's own item and each grant of its pass on its own line.
 pub(crate) fn print_answer(situation: u32, kind: u32, answer: &[u8])
     requires { ⌜ length (now answer) ≡ 144 ⌝ }
 {
@@ -31,7 +31,7 @@ pub(crate) fn print_answer(situation: u32, kind: u32, answer: &[u8])
     print_grants(situation, answer);
 }
 
-// What the active claim of that ticket was told, and its amount.
+// Prints the told sum and the amount of the active claim with that ticket.
 pub(crate) fn print_shown(situation: u32, ticket: u32, told: i32, amount: u32) {
     print_name(situation);
     io::write_all(1, b"shows ");
@@ -64,7 +64,7 @@ fn print_kind(kind: u32) {
     }
 }
 
-// The grants of the pass: an unused item has no ticket.
+// Prints the grants of the pass; an unused item has ticket 0.
 fn print_grants(situation: u32, answer: &[u8])
     requires { ⌜ length (now answer) ≡ 144 ⌝ }
 {
@@ -94,7 +94,7 @@ fn print_item(answer: &[u8], at: usize)
     print_figures(signed_at(answer, at + 8), word_at(answer, at + 12));
 }
 
-// Two numbers, the first signed, that end a line.
+// Prints told and amount, and ends the line.
 fn print_figures(told: i32, amount: u32) {
     print_signed(told);
     io::write_all(1, b" ");

@@ -1,5 +1,5 @@
-// 01's situations K1 to K13 and its printed run through the desk: each row of a table is a record, each record a call of
-// step, and the lines of the output are printed from its answer buffer; stdout has them as 01 says them.
+// 01's situations K1 to K13 and its printed run through the desk: a row of the table is a record, each record is a call of step,
+// and its answer buffer is printed. The file `stdout` has the lines that 01 asks for.
 
 mod lines;
 mod record;
@@ -40,7 +40,7 @@ fn main() {
     }
 }
 
-// The situation whose open is that row, on an empty board; where the next begins.
+// Runs the situation whose open is row `first`, on an empty board; returns the row at which the next one begins.
 fn situation_from(first: usize) -> usize
     requires { ⌜ first < 87 ⌝ }
     ensures { λ r. ⌜ (first < r) × (r ≤ 87) ⌝ }
@@ -61,7 +61,7 @@ fn situation_from(first: usize) -> usize
     i
 }
 
-// The row at that place of the table.
+// Row i of the table.
 fn row(i: usize) -> [u32; 8]
     requires { ⌜ i < 87 ⌝ }
 {
@@ -69,7 +69,7 @@ fn row(i: usize) -> [u32; 8]
     rows[i]
 }
 
-// One row: its call, whose answer is printed, or what it shows.
+// One row: makes its call and prints the answer, or prints what it shows.
 fn turn(board: &mut [u8], situation: u32, q: [u32; 8])
     requires { ⌜ length (now board) ≡ 49_216 ⌝ }
     ensures { λ _. ⌜ now (board .exit) ≡ afterRow (now (board .entry)) q ⌝ }
@@ -85,7 +85,7 @@ fn turn(board: &mut [u8], situation: u32, q: [u32; 8])
     print_answer(situation, kind, &answer);
 }
 
-// Prints what the active claim of that ticket was told, and its amount.
+// Prints the told sum and the amount of the active claim with that ticket.
 fn show(part: &[u8], situation: u32, ticket: u32)
     requires { ⌜ length (now part) ≡ 768 ⌝ }
 {

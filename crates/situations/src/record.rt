@@ -8,7 +8,7 @@ use crate::rows::OPEN;
 use crate::rows::RELEASE;
 use num::word::put_word;
 
-// The disk of every situation, that of 01's printed run, and one that stays closed.
+// The disk of every situation, as in 01's printed run; and one that stays closed.
 pub const DISK: u8 = 3;
 
 const CLOSED_DISK: u8 = 4;
@@ -47,7 +47,7 @@ fn byte(x: u32) -> u8
     (x % 256) as u8
 }
 
-// A record of these fields, the last four words.
+// A record with these fields; the last four are words.
 fn laid_out(kind: u8, disk: u8, method: u8, priority: u8, flag: u8, words: [u32; 4]) -> [u8; 24]
     ensures { λ r. ⌜ r ≡ laidOut kind disk method priority flag words ⌝ }
 {

@@ -1,4 +1,4 @@
-// The requests, in a table: 01's situations K1 to K13, each beside its words, and the printed run.
+// The requests, in a table: 01's situations K1 to K13, each under its words, and the printed run.
 
 // What a row asks. Each open begins a situation on an empty board.
 //   OPEN: now, limit of used, limit of promised, the situation's number (0: the printed run)
@@ -26,7 +26,7 @@ const READ_USED: u32 = 4;
 
 const READ_LOAD: u32 = 5;
 
-// Values to add below 0, as the words that stand for them.
+// Negative amounts to add, as words in two's complement.
 const MINUS_300: u32 = 4294966996;
 
 const MINUS_500: u32 = 4294966796;

@@ -1,4 +1,4 @@
--- How the program goes through a run of records: each piece that is due is one call of the desk, and its lines.
+-- How the program goes through a run of records: for each piece that is due, one call of the desk and its lines.
 use Prim.Native.Nat.{ℕ, zero, suc, _+_}
 use mathlib.Core.Bool.{Bool, cond}
 use mathlib.Core.List.{List, [], _++_}
@@ -25,7 +25,7 @@ answerLines b r number = linesOf number (shownDisk (called b r .code) r) (called
 
 -- ---- a run
 
--- Where a piece ends that is due; a short one is due only where no more bytes come. Else the place stays.
+-- Where the piece at `at` ends, if it is due; otherwise `at`. A short piece is due only if no more bytes come.
 abbrev pub dueOf : Piece → ℕ → Bool → ℕ
 dueOf (Record to) at last = to
 dueOf (Short to) at last = cond last to at
@@ -34,7 +34,7 @@ dueOf End at last = at
 abbrev pub dueAt : List ℕ → ℕ → Bool → ℕ
 dueAt s at last = dueOf (pieceAt s at) at last
 
--- How far a run has been answered: the board, the text, the number of the last record, the place behind it.
+-- How far a run has been answered: the board, the text, the number of the last record, and the place behind it.
 pub record Reached : Type 0 where
   pub board : List ℕ
   pub text : List ℕ
@@ -44,7 +44,7 @@ pub record Reached : Type 0 where
 abbrev pub reached : List ℕ → List ℕ → ℕ → ℕ → Reached
 reached b text number at = record { board = b; text = text; number = number; at = at }
 
--- The piece up to a place answered.
+-- After the piece up to `to` is answered.
 abbrev pub answeredTo : List ℕ → Reached → ℕ → Reached
 answeredTo s e to =
     reached
@@ -53,12 +53,12 @@ answeredTo s e to =
     (e .number + 1)
     to
 
--- At most so many pieces answered.
+-- After at most `most` pieces are answered.
 unfoldable pub answeredBy : ℕ → List ℕ → Bool → Reached → Reached
 answeredBy zero s last e = e
 answeredBy (suc most) s last e =
     cond (ltb (e .at) (dueAt s (e .at) last)) (answeredBy most s last (answeredTo s e (dueAt s (e .at) last))) e
 
--- All that is due in a run answered, of which there are at most as many pieces as bytes.
+-- After all that is due in a run is answered; a run has at most as many pieces as bytes.
 abbrev pub answeredRun : List ℕ → List ℕ → ℕ → Bool → Reached
 answeredRun b s from last = answeredBy (length s) s last (reached b [] from 0)

@@ -1,5 +1,5 @@
--- Laws of going through a run: what is due lies within it, a piece that is not the last has its whole length, and more turns than
--- there are pieces change nothing.
+-- Laws of going through a run: the next place is within the run, every piece but the last is a whole record, and more turns
+-- than there are pieces change nothing.
 use Prim.Native.Nat.{ℕ, zero, suc, _+_, _-_, _≤_, _<_}
 use mathlib.Core.Bool.{Bool, true, false}
 use mathlib.Core.List.{List, _++_, append-assoc}
@@ -23,7 +23,7 @@ record-least : (kind : ℕ) → 24 ≤ lengthOf kind
 unfolding lengthOf
 record-least kind = omega arith
 
--- The place stays, or moves on within the run: to its end, or by a whole record.
+-- The place stays, or moves on within the run: to its end, or by at least a whole record.
 pub record Due (s : List ℕ) (at to : ℕ) : Type 0 where
   pub onwards : at ≤ to
   pub within : at ≤ length s → to ≤ length s
@@ -73,7 +73,7 @@ module _ (s : List ℕ) (last : Bool) where
 
 -- ---- the text so far
 
--- What is put behind the text so far is at its end.
+-- A text put right behind the text so far extends it.
 pub take-splice : (l : List ℕ) (n : ℕ) (vs : List ℕ) → n + length vs ≤ length l → take (n + length vs) (splice l n vs) ≡ take n l ++ vs
 take-splice l n vs h =
     let e : length (take n l ++ vs) ≡ n + length vs = length-append (take n l) vs ∙ ap (λ k. k + length vs) (length-take-le n l (omega arith)) in

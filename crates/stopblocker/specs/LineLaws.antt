@@ -30,15 +30,15 @@ use Rattle.stopblocker.specs.Lines.{next, figures, itemText, lineOf, isG
 
 -- ---- one text behind another
 
--- A text put at a place: the place behind it, and the bytes.
+-- `text` was put into l at `at`: `to` is the place behind it, `out` the bytes after it.
 abbrev pub IsPut : List ℕ → ℕ → List ℕ → ℕ → List ℕ → Type 0
 IsPut l at text to out = (to ≡ at + length text) × (out ≡ splice l at text)
 
--- What is put keeps the length.
+-- Putting a text keeps the length.
 pub put-size : (l : List ℕ) (at : ℕ) (text : List ℕ) {to : ℕ} {out : List ℕ} → IsPut l at text to out → length out ≡ length l
 put-size l at text h = ap length (h .1) ∙ length-splice l at text
 
--- Two texts, the second put where the first ends, are one.
+-- Two texts, the second put where the first ends, are one text.
 pub behind : (l : List ℕ) (at : ℕ) (x y : List ℕ) {m to : ℕ} {o out : List ℕ} → IsPut l at x m o → IsPut o m y to out →
     IsPut l at (x ++ y) to out
 behind l at x y {m} h k = (
@@ -158,7 +158,7 @@ module _ (number disk : ℕ) (a : List ℕ) (h : disk < 256) (b : Bytes a) where
 
 -- ---- the lines are those of the answer and its grants
 
--- An item of 16 bytes holds the figures of an answer.
+-- The figures of an answer fit an item of 16 bytes.
 pub record ItemFits (x : Answer) : Type 0 where
   pub ticket : ticketOf x < 2 ^ 32
   pub told : mag (toldOf x) < 2 ^ 31
@@ -180,7 +180,7 @@ word-behind xs ys n j h =
         let e : n + j + i ≡ length xs + (j + i) = omega arith in
         ap (λ m. getD (xs ++ ys) m 0) e ∙ getD-append-add xs ys (j + i) 0
 
--- The words of zeros, also past their end.
+-- A word of zeros is 0, also past their end.
 word-zeros : (n j : ℕ) → wordAt (replicate n 0) j ≡ 0
 unfolding wordAt
 word-zeros n j = rw (byte j, byte (j + 1), byte (j + 2), byte (j + 3))
@@ -257,7 +257,7 @@ grants-shown number disk (g ∷ gs) (suc most) k front n h l m fs =
     ∙ (grants-next number disk all most k (grant-shown k front h g rest (fs .0 .0) (omega arith) (fs .0 .1))
     ∙ rw (line-shown k front h g rest (fs .0 .0) number disk, more))
 
--- The lines of an answer and at most 8 grants are the answer's line and one line for each grant, in order, with its figures.
+-- The lines of an answer and at most 8 grants: the answer's line, then one line for each grant, in order, with its figures.
 pub lines-shown : (number disk : ℕ) (own : Answer) (grants : List Answer) → ItemFits own → length grants ≤ 8 → All GrantFits grants →
     linesOf number disk (answerBytes own grants) ≡ answerLine number disk own ++ plusLines number disk grants
 unfolding linesOf answerBytes

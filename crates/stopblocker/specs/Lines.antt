@@ -10,7 +10,7 @@ use Rattle.answer.specs.declared.Answer.{Answer}
 use Rattle.answer.specs.Answers.{codeOf, ticketOf, toldOf, amountOf}
 use Rattle.stopblocker.specs.Text.{decimal, signedText}
 
--- A space is 32, the end of a line 10, a plus 43.
+-- 32 is a space, 10 the end of a line, 43 a plus.
 abbrev pub next : ℕ → List ℕ
 next n = 32 ∷ decimal n
 
@@ -18,18 +18,18 @@ next n = 32 ∷ decimal n
 unfoldable pub figures : ℕ → ℕ → ℤ → ℕ → List ℕ
 figures code ticket told amount = next code ++ (next ticket ++ ((32 ∷ signedText told) ++ (next amount ++ (10 ∷ []))))
 
--- Those of item k of an answer buffer.
+-- The same for item k of an answer buffer.
 abbrev pub itemText : List ℕ → ℕ → List ℕ
 itemText a k = figures (wordAt a (16 * k)) (wordAt a (16 * k + 4)) (signedAt a (16 * k + 8)) (wordAt a (16 * k + 12))
 
 unfoldable pub lineOf : ℕ → ℕ → List ℕ → ℕ → List ℕ
 lineOf number disk a k = decimal number ++ (next disk ++ itemText a k)
 
--- Item k, 1 to 8, shows a grant of the pass: it has a ticket.
+-- Item k, from 1 to 8, shows a grant of the pass: its ticket is not 0.
 unfoldable pub isGrant : List ℕ → ℕ → Bool
 isGrant a k = cond (ltb 8 k) false (not (eqb (wordAt a (16 * k + 4)) 0))
 
--- The lines of at most so many grants from item k on.
+-- The lines of the grants from item k on, at most `most` of them.
 unfoldable pub grantLines : ℕ → ℕ → ℕ → List ℕ → ℕ → List ℕ
 grantLines zero number disk a k = []
 grantLines (suc most) number disk a k =
@@ -39,13 +39,13 @@ grantLines (suc most) number disk a k =
 unfoldable pub linesOf : ℕ → ℕ → List ℕ → List ℕ
 linesOf number disk a = lineOf number disk a 0 ++ grantLines 8 number disk a 1
 
--- ---- the same by what was answered, and not by the bytes that show it
+-- ---- the same from the answers, not from the bytes that show them
 
 -- The line of an answer.
 unfoldable pub answerLine : ℕ → ℕ → Answer → List ℕ
 answerLine number disk x = decimal number ++ (next disk ++ figures (codeOf x) (ticketOf x) (toldOf x) (amountOf x))
 
--- A line for each of these, in order, "+" before the number.
+-- A line for each of these answers, in order, with "+" before the number.
 unfoldable pub plusLines : ℕ → ℕ → List Answer → List ℕ
 plusLines number disk [] = []
 plusLines number disk (x ∷ more) = (43 ∷ answerLine number disk x) ++ plusLines number disk more

@@ -1,4 +1,4 @@
--- Laws: what a call says fits the items of the answer buffer, on any board, and a pass grants at most 8 claims, each with a ticket.
+-- Laws: on any board, the items that a call says fit the answer buffer, and a pass grants at most 8 claims, each with a ticket.
 use Prim.Native.Nat.{ℕ, _+_, _^_, _≤_, _<_}
 use mathlib.Core.Bool.{true}
 use mathlib.Core.List.{List, [], _∷_, _++_}
@@ -47,13 +47,13 @@ pub record Fits (i : Item) : Type 0 where
   pub told : mag (i .told) < 2 ^ 31
   pub amount : i .amount < 2 ^ 32
 
--- An item that grants a claim of a ticket.
+-- The item grants a claim, with a ticket of at least 1, and its figures fit.
 pub record Grants (i : Item) : Type 0 where
   pub granting : i .code ≡ 0
   pub first : 1 ≤ i .ticket
   pub fits : Fits i
 
--- An item of a ticket alone.
+-- An item with a ticket alone fits.
 alone-fits : (code ticket : ℕ) → ticket < 2 ^ 32 → Fits (item code ticket)
 alone-fits code ticket h = record { ticket = h; told = omega arith; amount = omega arith }
 
@@ -85,7 +85,7 @@ grant-fits s ahead c g values limits e first below =
 
 -- ---- a pass
 
--- What a pass has granted so far, and what still waits.
+-- In a pass: the state fits, each item so far grants, and items and waiting claims together are at most 8.
 abbrev PassFits : ℕ → Core → List Claim → List Item → Type 0
 PassFits next s ws items = Fit diskTable s ws next × All Grants items × (length items + length ws ≤ 8)
 
@@ -100,12 +100,12 @@ turn-fits next s ahead c rest items g h =
 
 -- ---- a call on one disk
 
--- The items of a call: its own, and the grants of its pass.
+-- The items of a call fit: its own, and the grants of its pass.
 abbrev pub ItemsFit : List Item → Type 0
 ItemsFit [] = Unit {0}
 ItemsFit (i ∷ items) = Fits i × All Grants items × (length items ≤ 8)
 
--- A call such as the bytes of a record hold.
+-- A claim's own error or stated limit, or a release's ticket, fits four bytes.
 abbrev CallFits : LawCall → Type 0
 CallFits (claims q) = q .error < 2 ^ 32
 CallFits (releases now n) = n < 2 ^ 32
@@ -170,7 +170,7 @@ module _ (b r : List ℕ) (bs : Bytes r) where
       opening-fits b (diskNumber r) (openDisk (nowOf r) (usedLimit r) (promisedLimit r)) (open-fits (nowOf r) (usedLimit r) (promisedLimit r)))
       (λ w known o. serve-fits (partOf b (diskNumber r)))
 
--- ---- what is said, as answers
+-- ---- the items as answers
 
 item-fits : (i : Item) → Fits i → ItemFits (answerOf i)
 item-fits i f =
@@ -184,14 +184,14 @@ answer-is : (i : Item) → i .code ≡ 0 → answerOf i ≡ A.Granted (i .ticket
 unfolding answerOf
 answer-is i e = rw e
 
--- It grants, and has a ticket.
+-- The answer grants, with a ticket of at least 1.
 abbrev pub Granting : Answer → Type 0
 Granting x = (codeOf x ≡ 0) × (1 ≤ ticketOf x)
 
 granting : (i : Item) → Grants i → Granting (answerOf i)
 granting i g = rw (answer-is i (g .granting)) (refl, g .first)
 
--- The own answer fits, the grants are at most 8, and each of them fits and grants.
+-- The call's own answer fits; there are at most 8 grants, and each fits and grants.
 pub record Shows (s : Said) : Type 0 where
   pub own : ItemFits (ownOf s)
   pub few : length (grantsOf s) ≤ 8

@@ -1,5 +1,5 @@
--- What the program prints for a call, on any board: the line of the call's own answer, then exactly one "+" line for each grant of its
--- pass, in order, with the grant's ticket, told and amount.
+-- What the program prints for a call, on any board of the right length: the line of the call's own answer, then exactly one "+"
+-- line for each grant of its pass, in order, with the grant's ticket, told and amount.
 use Prim.Native.Nat.{ℕ, _≤_}
 use mathlib.Core.List.{List, _++_}
 use mathlib.Core.Path.{_≡_, ap, _∙_}
@@ -26,7 +26,7 @@ module _ (b r : List ℕ) (whole : length b ≡ boardBytes) (bs : Bytes r) where
   unfolding stepOf
   called-is = rw (eq-eqb (length b) boardBytes whole)
 
-  -- Its lines are the line of its own answer, and a "+" line for each grant.
+  -- The lines are that of the call's own answer, and a "+" line for each grant.
   pub call-lines : (number : ℕ) → answerLines b r number ≡ answerLine number disk (ownOf said) ++ plusLines number disk (grantsOf said)
   unfolding answerLines
   call-lines number =
@@ -34,6 +34,6 @@ module _ (b r : List ℕ) (whole : length b ≡ boardBytes) (bs : Bytes r) where
       ap (λ (x : Stepped). linesOf number disk (x .answer)) called-is
       ∙ lines-shown number disk (ownOf said) (grantsOf said) (s .own) (s .few) (s .fit)
 
-  -- There are at most 8 of them, and each grants (code 0) a claim of a ticket, 1 or more.
+  -- There are at most 8 grants, each with code 0 and a ticket of at least 1.
   pub call-grants : All Granting (grantsOf said) × (length (grantsOf said) ≤ 8)
   call-grants = let s = shows said (told-fits b r bs) in (s .grant, s .few)

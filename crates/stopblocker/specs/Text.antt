@@ -1,4 +1,4 @@
--- Numbers as text: decimal digits, and a sign where a figure is below 0.
+-- Numbers as text: decimal digits, with a minus before a negative figure.
 use Prim.Native.Nat.{ℕ, zero, suc, _+_, _/_, _%_}
 use mathlib.Core.Bool.{cond}
 use mathlib.Core.List.{List, [], _∷_, _++_}
@@ -10,7 +10,7 @@ unfoldable pub digits : ℕ → ℕ → List ℕ
 digits zero n = []
 digits (suc k) n = digits k (n / 10) ++ ((48 + n % 10) ∷ [])
 
--- How often a tenth can be taken until nothing is left, counted up to a bound.
+-- How often n can be divided by 10 before it is 0, but at most `most` times.
 unfoldable pub tenths : ℕ → ℕ → ℕ
 tenths zero n = 0
 tenths (suc most) n = cond (eqb n 0) 0 (suc (tenths most (n / 10)))
@@ -22,7 +22,7 @@ places n = suc (tenths 19 (n / 10))
 unfoldable pub decimal : ℕ → List ℕ
 decimal n = digits (places n) n
 
--- A minus is 45.
+-- 45 is a minus.
 unfoldable pub signedText : ℤ → List ℕ
 signedText (pos n) = decimal n
 signedText (negsuc n) = 45 ∷ decimal (suc n)

@@ -36,7 +36,7 @@ pub tenths-more : (most n : ℕ) → 0 < n → tenths (suc most) n ≡ suc (tent
 unfolding tenths
 tenths-more most n h = rw (ne-eqb n 0 (omega arith))
 
--- A number below 10 ^ k has no more digits than k, and one digit if k is 0.
+-- A number below 10 ^ k has at most k digits, or one if k is 0.
 tenths-most : (k most n : ℕ) → n < 10 ^ k → tenths most n ≤ k
 unfolding tenths
 tenths-most k zero n h = omega arith
@@ -52,7 +52,7 @@ tenths-most (suc k) (suc most) n h =
 pub places-most : (k n : ℕ) → n < 10 ^ suc k → places n ≤ suc k
 places-most k n h = omega (arith, tenths-most k 19 (n / 10) (omega (arith, pow-suc 10 k)))
 
--- No number has more than 20.
+-- `places` is at most 20.
 tenths-bound : (most n : ℕ) → tenths most n ≤ most
 unfolding tenths
 tenths-bound zero n = omega arith
@@ -73,7 +73,7 @@ digits-front (suc k) n =
     let e : n / 10 / 10 ^ k ≡ n / 10 ^ suc k = div-div-eq-div-mul n 10 (10 ^ k) ∙ ap (λ m. n / m) (sym (pow-succ' 10 k)) in
     ap (λ l. l ++ ((48 + n % 10) ∷ [])) (digits-front k (n / 10)) ∙ rw e
 
--- A byte in front of a run makes the run one longer.
+-- A byte stored right in front of a run makes the run one longer.
 set-sets : (vs l : List ℕ) (i j v : ℕ) → j < i → set (sets l i vs) j v ≡ sets (set l j v) i vs
 set-sets [] l i j v h = refl
 set-sets (x ∷ vs) l i j v h =
@@ -86,7 +86,7 @@ splice-front l i v vs = set-sets vs l (suc i) i v (omega arith)
 
 -- ---- what is printed is the number
 
--- The number that digits stand for, behind those that stand for n.
+-- The number whose digits are those of n followed by these.
 unfoldable pub readOn : ℕ → List ℕ → ℕ
 readOn n [] = n
 readOn n (c ∷ cs) = readOn (n * 10 + (c - 48)) cs

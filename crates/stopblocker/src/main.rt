@@ -25,7 +25,7 @@ const RUN_BYTES: usize = 6144;
 // Nine lines of 72 bytes for each record of a run, and for a short last piece.
 const LINES_BYTES: usize = 166536;
 
-// So many bytes are read at most, and one run more, that a record's number fits its 64 bits.
+// At most this many bytes and one run are read, so that a record's number fits its 64 bits.
 const MOST_BYTES: u64 = 18446744073709545471;
 
 fn main() {
@@ -35,7 +35,7 @@ fn main() {
     answer_input(&mut board, &mut run, &mut lines);
 }
 
-// Turn by turn, until nothing more comes.
+// Takes turns until no more input comes or the lines cannot be written.
 fn answer_input(board: &mut [u8], run: &mut [u8], lines: &mut [u8])
     requires { ⌜ length (now run) ≡ 6144 ⌝ }
     requires { ⌜ length (now lines) ≡ 166_536 ⌝ }
@@ -54,15 +54,15 @@ fn answer_input(board: &mut [u8], run: &mut [u8], lines: &mut [u8])
     }
 }
 
-// How many bytes a turn has read, 0 if it was the last; the number of the last record answered; how many bytes of a cut one stand at
-// the front of the run.
+// A turn: how many bytes it read (0 if it was the last), the number of the last record answered, and how many bytes of a cut record
+// are at the front of the run.
 struct Turned {
     got: usize,
     number: u64,
     have: usize,
 }
 
-// Reads what has come behind the bytes of a cut record, answers the records, writes their lines, and keeps what is cut.
+// Reads input behind the bytes of a cut record, answers the records, writes their lines, and keeps the bytes of the next cut record.
 fn turn(board: &mut [u8], run: &mut [u8], have: usize, number: u64, lines: &mut [u8]) -> Turned
     requires { ⌜ 27 * length (now run) + 648 ≤ length (now lines) ⌝ }
     requires { ⌜ number + length (now run) < 2 ^ 64 ⌝ }
@@ -90,14 +90,14 @@ fn turn(board: &mut [u8], run: &mut [u8], have: usize, number: u64, lines: &mut 
     }
 }
 
-// How far a run has been answered: the length of the lines, the number of the last record, the place behind it.
+// How far a run has been answered: the length of the lines, the number of the last record, and the place behind it.
 struct Answered {
     length: usize,
     number: u64,
     at: usize,
 }
 
-// Answers the pieces of a run that are due, one call of the desk each, and puts their lines one behind the other.
+// Answers the pieces of a run that are due, with one call of the desk each, and puts their lines one behind the other.
 fn answer_run(board: &mut [u8], run: &[u8], from: u64, last: bool, lines: &mut [u8]) -> Answered
     requires { ⌜ 27 * length (now run) + 648 ≤ length (now lines) ⌝ }
     requires { ⌜ from + length (now run) < 2 ^ 64 ⌝ }
@@ -119,7 +119,7 @@ fn answer_run(board: &mut [u8], run: &[u8], from: u64, last: bool, lines: &mut [
     Answered { length, number, at }
 }
 
-// Where the piece at a place ends, if it is due: a short one only where no more bytes come. Else the place itself.
+// Where the piece at `at` ends, if it is due; otherwise `at`. A short piece is due only if no more bytes come.
 fn due(run: &[u8], at: usize, last: bool) -> usize
     ensures { λ to. ⌜ to ≡ dueAt (now (run .entry)) at last ⌝ }
 {
@@ -144,7 +144,7 @@ fn answer_piece(board: &mut [u8], r: &[u8], number: u64, lines: &mut [u8], at: u
     put_lines(lines, at, number, disk, &answer)
 }
 
-// The disk of a record; of one refused 10 it is 0.
+// The disk to show: byte 3 of the record, or 0 if it was refused 10.
 fn disk_shown(r: &[u8], code: u32) -> u8
     ensures { λ d. ⌜ d ≡ shownDisk code (now (r .entry)) ⌝ }
 {
@@ -157,7 +157,7 @@ fn disk_shown(r: &[u8], code: u32) -> u8
     r[3]
 }
 
-// Reads what has come, behind the bytes that are there. 0 at the end of the input.
+// Reads input behind the first `have` bytes; returns how many bytes came, 0 at the end of the input.
 fn read_behind(run: &mut [u8], have: usize) -> usize
     requires { ⌜ have ≤ length (now run) ⌝ }
     ensures { λ got. ⌜ have + got ≤ length (now (run .entry)) ⌝ }
@@ -167,7 +167,7 @@ fn read_behind(run: &mut [u8], have: usize) -> usize
     io::count(got, &run[have..end])
 }
 
-// Moves the bytes from one place up to another to the front; how many they are.
+// Moves the bytes from `at` up to `end` to the front; returns how many they are.
 fn carry(run: &mut [u8], at: usize, end: usize) -> usize
     requires { ⌜ at ≤ end ⌝ }
     requires { ⌜ end ≤ length (now run) ⌝ }

@@ -1,4 +1,4 @@
-// Numbers as text, put into lent bytes at a place. Each function answers the place behind what it put.
+// Numbers as text, put into lent bytes at a place. Each public function returns the place behind what it put.
 
 ghost use mathlib.Core.Path.{_≡_};
 ghost use mathlib.Core.List.{[], _∷_};
@@ -55,7 +55,7 @@ fn places(n: u64) -> usize
     k
 }
 
-// The last digits of a number, from one place up to another.
+// Puts the last digits of a number from `at` up to `end`.
 fn put_digits(out: &mut [u8], at: usize, end: usize, n: u64)
     requires { ⌜ at ≤ end ⌝ }
     requires { ⌜ end ≤ length (now out) ⌝ }

@@ -1,4 +1,4 @@
--- One bit of the shifted mask is the rest of its division by 2.
+-- The lowest bit of the shifted mask is its remainder by 2.
 use Prim.Native.Nat.{ℕ, _/_, _^_}
 use mathlib.Core.Path.{ap}
 use borrow.Author.Needs.{needs}

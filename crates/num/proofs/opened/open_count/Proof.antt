@@ -1,4 +1,4 @@
--- The set bits of the open word are the open disks, of which there are at most 64.
+-- The set bits of the open word are the open disks, and there are at most 64.
 use mathlib.Core.Path.{refl}
 use native.Mathlib.Omega.{arith}
 use borrow.Author.Needs.{needs}

@@ -1,4 +1,4 @@
--- Two figures of 32 bits differ by less than 2 ^ 32, and the size of their difference is their distance.
+-- Two 32-bit figures differ by less than 2 ^ 32, and the size of their difference is their distance.
 use Prim.Native.Nat.{_≤_}
 use native.Mathlib.Omega.{arith}
 use lib.IntN.{_-ℤ_}

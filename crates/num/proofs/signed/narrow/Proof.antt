@@ -1,4 +1,4 @@
--- A figure that is at most 2147483647 large fits 32 bits, so its bits there are its own.
+-- A figure whose size is at most 2147483647 fits 32 bits, so it stays the same there.
 use native.Mathlib.Omega.{arith}
 use mir.Facts.{toZ-ofZ}
 use mir.Syntax.{w32}

@@ -1,4 +1,4 @@
--- A sum of two figures of 32 bits is at most 2 ^ 32 large, so 64 bits hold it.
+-- The size of a sum of two 32-bit figures is at most 2 ^ 32, so 64 bits hold it.
 use Prim.Native.Nat.{_≤_}
 use mathlib.Core.Path.{refl}
 use native.Mathlib.Omega.{arith}

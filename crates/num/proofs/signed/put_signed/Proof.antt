@@ -1,4 +1,4 @@
--- The word put is the figure's.
+-- The word that is put is the figure's word.
 use borrow.Author.Needs.{needs}
 use mir.Facts.{toZ-ofZ}
 use Rattle.num.proofs.signed.put_signed.Statement.{statement}

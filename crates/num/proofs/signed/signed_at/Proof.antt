@@ -1,4 +1,4 @@
--- The word read stands for the figure that comes back.
+-- The result is the figure of the word that is read.
 use borrow.Author.Needs.{needs, sfits-of}
 use mir.Facts.{toZ-ofZ}
 use Rattle.num.proofs.signed.signed_at.Statement.{statement}

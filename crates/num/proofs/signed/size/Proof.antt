@@ -1,4 +1,4 @@
--- A figure of 32 bits is one of 64, and its size is at most 2147483648.
+-- A 32-bit figure fits 64 bits, and its size is at most 2147483648.
 use Prim.Native.Nat.{_≤_}
 use mathlib.Core.Path.{_≡_}
 use native.Mathlib.Omega.{arith}

@@ -1,4 +1,4 @@
--- From 2147483648 on a word stands for the figure that is 4294967296 less; below, for its own number.
+-- A word from 2147483648 on stands for itself less 4294967296, a smaller one for itself.
 use Prim.Native.Nat.{ℕ, _≤_, _<_}
 use mathlib.Core.Path.{_≡_, refl}
 use native.Mathlib.Omega.{arith}

@@ -1,4 +1,4 @@
--- The word of a figure below 0 is 4294967296 more than the figure; of any other it is the figure itself.
+-- The word of a negative figure is the figure plus 4294967296; any other figure is its own word.
 use Prim.Native.Nat.{suc}
 use mathlib.Core.Bool.{true, false}
 use mathlib.Core.Path.{_≡_, refl, subst}

@@ -1,4 +1,4 @@
--- Below 0 the negation is as large as the figure and not negative; otherwise the figure itself is its size.
+-- If z is negative, −z has the same size and is not negative; otherwise z is its own size.
 use native.Mathlib.Omega.{arith}
 use borrow.Author.Needs.{needs}
 use lib.IntN.{pos, _-ℤ_}

@@ -1,4 +1,4 @@
--- The size compared is the figure's.
+-- `size` gives the size that is compared.
 use borrow.Author.Needs.{needs}
 use mir.Facts.{toZ-ofZ}
 use Rattle.num.proofs.signed.within.Statement.{statement}
