@@ -2,8 +2,8 @@
 //!
 //! A [`Board`] holds up to 64 disks, each with three attributes: used, promised and state. A [`Claim`] is on one method
 //! of one disk and is held until its [`Release`]; a write shows in the figures at its release, a reading states how
-//! much error it can bear. The desk grants, lets wait or refuses, and it is proved: the call that this crate makes is
-//! the exported `step` of the repository's `desk`.
+//! much error it can bear. The desk grants, lets wait or refuses, and it is proved: this crate calls the `step` that the
+//! repository's crate `kit` exports.
 //!
 //! ```
 //! use stopblocker::{Board, Claim, Disk, Open, Release};
