@@ -119,7 +119,7 @@ fn time(counts: &Counts) {
     let workloads = workload::all();
     for workload in &all() {
         same(equal::on_workload(workload).map(|_| ()));
-        if let Some(store) = &mut store {
+        if let (Some(store), true) = (&mut store, workload.in_rows) {
             same(equal::on_store(workload, store));
         }
     }

@@ -22,6 +22,8 @@ pub struct Workload {
     pub name: &'static str,
     pub board: Vec<u8>,
     pub calls: Vec<Call>,
+    /// Whether the store's rows can hold the board. They cannot where a count is not the number of claims.
+    pub in_rows: bool,
 }
 
 pub fn disk(number: u8) -> Disk {

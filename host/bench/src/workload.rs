@@ -34,7 +34,7 @@ fn readers() -> Workload {
             assert_eq!(making.call(claim.priority(5).into()), 0, "a planner's reading is granted");
         }
     }
-    Workload { name: "readers", board, calls: making.calls }
+    Workload { name: "readers", board, calls: making.calls, in_rows: true }
 }
 
 /// Eight disks with seven or eight active claims and some that wait: a release, whose pass tries them, then claims until
@@ -51,7 +51,7 @@ fn busy() -> Workload {
         making.release_any(d);
         fill(&mut making, d);
     }
-    Workload { name: "busy", board, calls: making.calls }
+    Workload { name: "busy", board, calls: making.calls, in_rows: true }
 }
 
 fn fill(making: &mut Making, d: u8) {
@@ -104,7 +104,7 @@ fn refused() -> Workload {
         assert_eq!(step(&mut making.board, &call.record[..call.record_bytes], answer), *number);
     }
     let calls = turn.iter().cycle().take(CALLS / turn.len() * turn.len()).map(|(_, call)| *call).collect();
-    Workload { name: "refused", board, calls }
+    Workload { name: "refused", board, calls, in_rows: true }
 }
 
 /// A day: claims of all methods on 40 disks, up to five held at once on each, one call in twelve refused.
@@ -129,5 +129,5 @@ fn mix() -> Workload {
             making.call(claim.into());
         }
     }
-    Workload { name: "mix", board, calls: making.calls }
+    Workload { name: "mix", board, calls: making.calls, in_rows: true }
 }
