@@ -1,5 +1,5 @@
-/* The desk for C and C++: one call on lent bytes. Link target/host/libstopblocker.a (host/build makes it); it needs
- * memcpy, memmove and memset and nothing else. docs/HOST.md tells how, docs/LAYOUT.md has every byte.
+/* The desk for C and C++: one call on lent bytes. Link target/host/libstopblocker.a (host/build makes it); it asks the C
+ * library for memset and nothing else. docs/HOST.md tells how, docs/LAYOUT.md has every byte.
  *
  * All numbers are little-endian. A word is four bytes; a signed word is in two's complement. */
 #ifndef STOPBLOCKER_H
