@@ -130,6 +130,7 @@ enum {
     SB_PART_USED = 16,     /* a figure */
     SB_PART_PROMISED = 32, /* a figure */
     SB_PART_STATE = 48,    /* a figure without amount and limit */
+    SB_PART_ZERO = 56,     /* two words that are zero */
     SB_PART_ACTIVE = 64,   /* slots, in the order of their grants */
     SB_PART_WAITING = 416  /* slots, in the order of the pass */
 };
@@ -153,7 +154,8 @@ enum {
     SB_SLOT_OWN_ERROR = 24,    /* of a write */
     SB_SLOT_STATED_LIMIT = 24, /* of a reading */
     SB_SLOT_TOLD = 28,         /* signed word: an active reading's; else 0 */
-    SB_SLOT_AMOUNT = 32        /* an active reading's; else 0 */
+    SB_SLOT_AMOUNT = 32,       /* an active reading's; else 0 */
+    SB_SLOT_ZERO = 36          /* two words that are zero */
 };
 
 /* A word, a signed word, and a word put in its place. */

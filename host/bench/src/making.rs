@@ -1,7 +1,7 @@
 //! How workloads are made: a board, calls on it, and the tickets that they hold.
 
 use crate::chance::Chance;
-use stopblocker::layout::{part_at, word_at, ANSWER_BYTES, BOARD_BYTES, RECORD_BYTES};
+use stopblocker::layout::{item, part_at, word_at, ANSWER_BYTES, BOARD_BYTES, RECORD_BYTES};
 use stopblocker::{step, Claim, Disk, Open, Release, Request};
 
 /// A record, and how many of its bytes and of the answer buffer's are lent: but for a few refusals, all.
@@ -75,7 +75,7 @@ impl Making {
         self.calls.push(Call::of(record));
         let code = step(&mut self.board, &record, &mut self.answer);
         if let (Request::Claim(claim), 0..=1) = (request, code) {
-            self.held[usize::from(claim.disk().number())].push(word_at(&self.answer, 4));
+            self.held[usize::from(claim.disk().number())].push(word_at(&self.answer, item::TICKET));
         }
         code
     }

@@ -1,7 +1,7 @@
 //! Single calls, to see where the time of a call goes: each adds something to one above it.
 
 use crate::making::{disk, Call, Making, Workload};
-use stopblocker::layout::{part, part_at, put_word, slot, CLAIMS, SLOT_BYTES};
+use stopblocker::layout::{figure, part, part_at, put_word, slot, CLAIMS, MOST_TICKET, SLOT_BYTES};
 use stopblocker::{Claim, Release, Request};
 
 /// One call on a board with disk 0 as these claims leave it.
@@ -54,12 +54,12 @@ pub fn all() -> Vec<Workload> {
     let load = Claim::read_load(d, NOW, 3_000);
     let report = Claim::report_used(d, NOW, 40_100, 10);
     let early = Claim::read_load(d, NOW - 1, 3_000);
-    let unknown = Release::new(d, NOW, 999_999);
+    let unknown = Release::new(d, NOW, MOST_TICKET);
     let first = Release::new(d, NOW, FIRST);
     let second = Release::new(d, NOW, FIRST + 1);
     vec![
         situation("refused 13: frame alone", &[], Claim::read_used(disk(1), NOW, 0), 13),
-        unsound("refused 14, none active: an amount over its limit", &[], part::USED + 8, 1_001),
+        unsound("refused 14, none active: an amount over its limit", &[], part::USED + figure::AMOUNT, 1_001),
         unsound("refused 14, 8 active, 8 waiting: the last has an amount", &before(true, 7, 8), LAST + slot::AMOUNT, 1),
         Workload { in_rows: false, ..unsound("refused 14, none active: a count of 9", &[], part::ACTIVE_COUNT, 9) },
         situation("refused 15, none active: and soundness", &before(false, 0, 0), early, 15),

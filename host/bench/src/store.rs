@@ -6,15 +6,29 @@
 use crate::hand;
 use crate::sqlite::{Database, Statement};
 use stopblocker::layout::{
-    part, part_at, put_word, word_at, ANSWER_BYTES, BOARD_BYTES, CLAIMS, DISKS, PART_BYTES, SLOT_BYTES,
+    figure, open_bit, part, part_at, put_word, record as at, slot, word_at, ANSWER_BYTES, BOARD_BYTES, CLAIMS, DISKS,
+    PART_BYTES, SLOT_BYTES,
 };
 
 /// The words of a part's head that a row has: all but the two counts and the two zeros.
-const HEAD: [usize; 12] = [0, 4, 16, 20, 24, 28, 32, 36, 40, 44, 48, 52];
+const HEAD: [usize; 12] = [
+    part::CLOCK,
+    part::NEXT_TICKET,
+    part::USED + figure::VALUE,
+    part::USED + figure::STAMP,
+    part::USED + figure::AMOUNT,
+    part::USED + figure::LIMIT,
+    part::PROMISED + figure::VALUE,
+    part::PROMISED + figure::STAMP,
+    part::PROMISED + figure::AMOUNT,
+    part::PROMISED + figure::LIMIT,
+    part::STATE + figure::VALUE,
+    part::STATE + figure::STAMP,
+];
 const FIGURES: usize = HEAD.len();
 
 /// The words of a slot that a row has: all but the two zeros.
-const WORDS: usize = 9;
+const WORDS: usize = slot::ZERO / 4;
 
 const DISKS_TABLE: &str = "CREATE TABLE disks (disk INTEGER PRIMARY KEY, clock, next, \
     used, used_stamp, used_amount, used_limit, promised, promised_stamp, promised_amount, promised_limit, state, state_stamp)";
@@ -85,7 +99,7 @@ impl Store {
         for clear in &mut self.clear {
             clear.run(&[]);
         }
-        for disk in (0..DISKS).filter(|disk| board[disk / 8] >> (disk % 8) & 1 == 1) {
+        for disk in (0..DISKS).filter(|disk| is_open(board, *disk)) {
             let at = part_at(disk);
             self.board[at..at + PART_BYTES].copy_from_slice(&board[at..at + PART_BYTES]);
             self.rows.clear();
@@ -101,7 +115,7 @@ impl Store {
         for disk in 0..DISKS {
             if self.read(disk) {
                 let at = part_at(disk);
-                whole[disk / 8] |= 1 << (disk % 8);
+                set_open(&mut whole, disk);
                 whole[at..at + PART_BYTES].copy_from_slice(&self.board[at..at + PART_BYTES]);
                 self.forget(disk);
             }
@@ -114,7 +128,7 @@ impl Store {
         if answer.len() != ANSWER_BYTES || !hand::names_a_disk(record) {
             return hand::step(&mut self.board, record, answer);
         }
-        let disk = usize::from(record[3]);
+        let disk = usize::from(record[at::DISK]);
         self.begin.run(&[]);
         self.read(disk);
         let code = hand::step(&mut self.board, record, answer);
@@ -141,7 +155,7 @@ impl Store {
         if !open {
             return false;
         }
-        board[disk / 8] |= 1 << (disk % 8);
+        set_open(board, disk);
         let rows = &mut self.rows;
         self.read_claims.rows(&[disk as i64], |[granted, words @ ..]: [i64; 1 + WORDS]| {
             rows.push(Row { granted, words: words.map(|word| word as u32) });
@@ -203,7 +217,17 @@ impl Store {
     /// Makes the board empty again.
     fn forget(&mut self, disk: usize) {
         let at = part_at(disk);
-        self.board[disk / 8] = 0;
+        self.board[open_bit(disk).0] = 0;
         self.board[at..at + PART_BYTES].fill(0);
     }
+}
+
+fn is_open(board: &[u8], disk: usize) -> bool {
+    let (byte, mask) = open_bit(disk);
+    board[byte] & mask != 0
+}
+
+fn set_open(board: &mut [u8], disk: usize) {
+    let (byte, mask) = open_bit(disk);
+    board[byte] |= mask;
 }

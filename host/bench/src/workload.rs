@@ -2,7 +2,9 @@
 //! those that the desk has given out.
 
 use crate::making::{disk, Call, Making, Workload};
-use stopblocker::layout::{part, part_at, put_word, ANSWER_BYTES, RECORD_BYTES};
+use stopblocker::layout::{
+    figure, part, part_at, put_word, record, ANSWER_BYTES, CLAIMS, MOST_ERROR, MOST_TICKET, MOST_VALUE, RECORD_BYTES,
+};
 use stopblocker::{step, Claim, Open, Release, Request};
 
 const CALLS: usize = 6_000;
@@ -55,8 +57,9 @@ fn busy() -> Workload {
 }
 
 fn fill(making: &mut Making, d: u8) {
-    while making.count(d, part::ACTIVE_COUNT) < 8 || making.count(d, part::WAITING_COUNT) < 3 {
-        if making.count(d, part::WAITING_COUNT) == 8 {
+    let all = CLAIMS as u32;
+    while making.count(d, part::ACTIVE_COUNT) < all || making.count(d, part::WAITING_COUNT) < 3 {
+        if making.count(d, part::WAITING_COUNT) == all {
             break;
         }
         let claim = making.any_claim(d);
@@ -74,30 +77,30 @@ fn refused() -> Workload {
     for _ in 0..8 {
         making.call(Claim::read_state(full, now).into());
     }
-    put_word(&mut making.board, part_at(2) + part::NEXT_TICKET, 1_000_000);
-    put_word(&mut making.board, part_at(3) + part::USED + 8, 1_001);
+    put_word(&mut making.board, part_at(2) + part::NEXT_TICKET, MOST_TICKET + 1);
+    put_word(&mut making.board, part_at(3) + part::USED + figure::AMOUNT, 1_001);
     let board = making.begin();
     let reading = Claim::read_used(idle, now, 100);
     let with = |request: Request, at: usize, byte: u8| {
-        let mut record = request.record();
-        record[at] = byte;
-        Call::of(record)
+        let mut bytes = request.record();
+        bytes[at] = byte;
+        Call::of(bytes)
     };
     let turn = [
         (9, Call { answer_bytes: ANSWER_BYTES - 1, ..Call::of(reading.record()) }),
-        (10, with(reading.into(), 7, 1)),
+        (10, with(reading.into(), record::ZERO, 1)),
         (10, Call { record_bytes: RECORD_BYTES - 1, ..Call::of(reading.record()) }),
-        (11, with(reading.into(), 3, 64)),
+        (11, with(reading.into(), record::DISK, 64)),
         (12, Call::of(Open::new(idle, now, 0, 0).record())),
         (13, Call::of(Claim::read_used(closed, now, 100).record())),
         (14, Call::of(Claim::read_used(broken, now, 100).record())),
         (15, Call::of(Claim::read_used(idle, now - 1, 100).record())),
-        (16, with(reading.into(), 4, 7)),
-        (17, Call::of(Claim::report_used(idle, now, 1_000_000_001, 0).record())),
+        (16, with(reading.into(), record::METHOD, 7)),
+        (17, Call::of(Claim::report_used(idle, now, MOST_VALUE as i32 + 1, 0).record())),
         (18, Call::of(Claim::report_used(idle, now, 0, 1_001).record())),
         (19, Call::of(Claim::read_used(spent, now, 100).record())),
         (20, Call::of(Claim::read_state(full, now).record())),
-        (21, Call::of(Release::new(full, now, 999_999).record())),
+        (21, Call::of(Release::new(full, now, MOST_TICKET).record())),
     ];
     for (number, call) in &turn {
         let answer = &mut making.answer[..call.answer_bytes];
@@ -116,10 +119,10 @@ fn mix() -> Workload {
         making.now += u32::from(making.chance.below(16) == 0);
         if making.chance.below(12) == 0 {
             let request = match making.chance.below(4) {
-                0 => Release::new(disk(d), making.now, 999_999).into(),
+                0 => Release::new(disk(d), making.now, MOST_TICKET).into(),
                 1 => Claim::read_load(disk(d), 0, 1_000).into(),
                 2 => Claim::report_used(disk(d), making.now, 0, 5_000).into(),
-                _ => Claim::read_used(disk(d + 20), making.now, 2_000_000_001).into(),
+                _ => Claim::read_used(disk(d + 20), making.now, MOST_ERROR + 1).into(),
             };
             assert!(making.call(request) > 3, "refused");
         } else if making.chance.below(6) < making.held[usize::from(d)].len() as u64 {

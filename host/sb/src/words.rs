@@ -5,6 +5,7 @@ use crate::line::Line;
 use crate::number::grouped;
 use crate::record::Record;
 use std::collections::HashMap;
+use stopblocker::layout::{GRANTED, OPENED, RELEASED, WAITS};
 use stopblocker::{Board, ClaimView, Disk, Item, Method, Refusal};
 
 /// What a ticket is for.
@@ -38,21 +39,21 @@ impl Teller {
     pub fn tell(&mut self, line: &Line, asked: Option<&Result<Record, String>>) -> String {
         let Line { of_pass, record, disk, item } = *line;
         if let Some(Ok(Record::Claim(claim))) = asked {
-            if let (Some(method), 0 | 1, false) = (claim.known_method(), item.code, of_pass) {
+            if let (Some(method), GRANTED | WAITS, false) = (claim.known_method(), item.code, of_pass) {
                 self.claims.insert((disk, item.ticket), Known { method, value: claim.value, active: false });
             }
         }
         // The program shows disk 0 for a record that it cannot read.
         let who = match item.code {
-            10 => format!("record {record}"),
+            number if number == Refusal::Record.number() => format!("record {record}"),
             _ if of_pass => format!("  + record {record}"),
             _ => format!("record {record}, disk {disk}"),
         };
         let what = match item.code {
-            0 => self.granted(disk, of_pass, &item),
-            1 => format!("ticket {} waits, tried again at each release", item.ticket),
-            2 => format!("released ticket {}{}", item.ticket, self.after_release(disk, item.ticket)),
-            3 => format!("opened{}", limits(asked)),
+            GRANTED => self.granted(disk, of_pass, &item),
+            WAITS => format!("ticket {} waits, tried again at each release", item.ticket),
+            RELEASED => format!("released ticket {}{}", item.ticket, self.after_release(disk, item.ticket)),
+            OPENED => format!("opened{}", limits(asked)),
             number => refused(number, asked),
         };
         format!("{who}: {what}\n")

@@ -1,6 +1,6 @@
 //! What an accepted call answers.
 
-use crate::layout::{signed_at, word_at, ANSWER_BYTES, ITEMS, ITEM_BYTES};
+use crate::layout::{item, signed_at, word_at, ANSWER_BYTES, GRANTED, ITEMS, ITEM_BYTES, OPENED, RELEASED, WAITS};
 use crate::Refusal;
 
 /// A claim is granted, in its own call or in the pass of a release.
@@ -99,12 +99,12 @@ impl Item {
     /// The nine items of an answer buffer: the call's own, then the grants of its pass; unused ones are zero.
     pub fn all(answer: &[u8; ANSWER_BYTES]) -> [Item; ITEMS] {
         let mut items = [Item::default(); ITEMS];
-        for (item, bytes) in items.iter_mut().zip(answer.chunks_exact(ITEM_BYTES)) {
-            *item = Item {
-                code: word_at(bytes, 0),
-                ticket: word_at(bytes, 4),
-                told: signed_at(bytes, 8),
-                amount: word_at(bytes, 12),
+        for (filled, bytes) in items.iter_mut().zip(answer.chunks_exact(ITEM_BYTES)) {
+            *filled = Item {
+                code: word_at(bytes, item::CODE),
+                ticket: word_at(bytes, item::TICKET),
+                told: signed_at(bytes, item::TOLD),
+                amount: word_at(bytes, item::AMOUNT),
             };
         }
         items
@@ -120,13 +120,13 @@ impl Answer {
     pub(crate) fn of(answer: &[u8; ANSWER_BYTES]) -> Result<Answer, Refusal> {
         let [own, pass @ ..] = Item::all(answer);
         Ok(match own.code {
-            0 => Answer::Granted(own.granted()),
-            1 => Answer::Waits(Waits { ticket: own.ticket }),
-            2 => Answer::Released(Released {
+            GRANTED => Answer::Granted(own.granted()),
+            WAITS => Answer::Waits(Waits { ticket: own.ticket }),
+            RELEASED => Answer::Released(Released {
                 ticket: own.ticket,
                 grants: pass.iter().take_while(|item| item.ticket != 0).map(|item| item.granted()).collect(),
             }),
-            3 => Answer::Opened(Opened),
+            OPENED => Answer::Opened(Opened),
             number => return Err(Refusal::of(number).expect("every call ends with a code 0 to 3 or a refusal")),
         })
     }

@@ -1,6 +1,6 @@
 //! The board, and the calls on it.
 
-use crate::layout::{part_at, ANSWER_BYTES, BOARD_BYTES, OPEN_BYTES, PART_BYTES};
+use crate::layout::{open_bit, part_at, ANSWER_BYTES, BOARD_BYTES, OPEN_BYTES, PART_BYTES};
 use crate::{step, Answer, Claim, Claimed, Disk, DiskView, Open, Opened, Refusal, Release, Released, Request};
 use std::error::Error;
 use std::fmt;
@@ -93,8 +93,8 @@ impl Board {
 
     /// Whether a disk is open.
     pub fn is_open(&self, disk: Disk) -> bool {
-        let d = usize::from(disk.number());
-        self.bytes[d / 8] >> (d % 8) & 1 == 1
+        let (byte, mask) = open_bit(usize::from(disk.number()));
+        self.bytes[byte] & mask != 0
     }
 
     /// The number of open disks.

@@ -1,6 +1,6 @@
 //! Open, release and any request, and their records.
 
-use crate::layout::{begun, put_word, record, RECORD_BYTES};
+use crate::layout::{begun, put_word, record, OPEN, RECORD_BYTES, RELEASE};
 use crate::{Claim, Disk};
 
 /// Opens a disk: values and amounts 0, stamps and clock = now, next ticket 1, no claims.
@@ -28,7 +28,7 @@ impl Open {
 
     /// Its record.
     pub fn record(&self) -> [u8; RECORD_BYTES] {
-        let mut bytes = begun(1, self.disk.number(), self.now);
+        let mut bytes = begun(OPEN, self.disk.number(), self.now);
         put_word(&mut bytes, record::USED_LIMIT, self.used_limit);
         put_word(&mut bytes, record::PROMISED_LIMIT, self.promised_limit);
         bytes
@@ -57,7 +57,7 @@ impl Release {
 
     /// Its record.
     pub fn record(&self) -> [u8; RECORD_BYTES] {
-        let mut bytes = begun(3, self.disk.number(), self.now);
+        let mut bytes = begun(RELEASE, self.disk.number(), self.now);
         put_word(&mut bytes, record::TICKET, self.ticket);
         bytes
     }

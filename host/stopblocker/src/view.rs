@@ -1,6 +1,6 @@
 //! A disk as it stands on the board, for people's tools: read only, through docs/LAYOUT.md.
 
-use crate::layout::{part, signed_at, slot, word_at, CLAIMS, SLOT_BYTES};
+use crate::layout::{figure, part, signed_at, slot, word_at, CLAIMS, SLOT_BYTES};
 use crate::Method;
 use std::fmt;
 
@@ -102,7 +102,10 @@ impl<'a> DiskView<'a> {
 
     /// State.
     pub fn state(&self) -> State {
-        State { code: signed_at(self.part, part::STATE), stamp: word_at(self.part, part::STATE + 4) }
+        State {
+            code: signed_at(self.part, part::STATE + figure::VALUE),
+            stamp: word_at(self.part, part::STATE + figure::STAMP),
+        }
     }
 
     /// The active claims, in the order of their grants.
@@ -117,10 +120,10 @@ impl<'a> DiskView<'a> {
 
     fn figure(&self, at: usize) -> Figure {
         Figure {
-            value: signed_at(self.part, at),
-            stamp: word_at(self.part, at + 4),
-            amount: word_at(self.part, at + 8),
-            limit: word_at(self.part, at + 12),
+            value: signed_at(self.part, at + figure::VALUE),
+            stamp: word_at(self.part, at + figure::STAMP),
+            amount: word_at(self.part, at + figure::AMOUNT),
+            limit: word_at(self.part, at + figure::LIMIT),
         }
     }
 
@@ -141,7 +144,7 @@ impl ClaimView {
             fresh: word_at(bytes, slot::FRESH) != 0,
             measured: word_at(bytes, slot::MEASURED),
             value: signed_at(bytes, slot::VALUE),
-            error: word_at(bytes, slot::ERROR),
+            error: word_at(bytes, slot::OWN_ERROR),
             told: signed_at(bytes, slot::TOLD),
             amount: word_at(bytes, slot::AMOUNT),
         }

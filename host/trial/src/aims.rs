@@ -6,8 +6,9 @@ use crate::edges::{Aim, At};
 use crate::odd::{BILLION, LAST_SECOND};
 use second::record::Fields;
 use second::{entry, Action, Claim, Disk, Entry, Method};
+use stopblocker::layout::{PROMISED_VALID, STATE_VALID, USED_VALID};
 
-const VALIDITY: [i64; 3] = [300, 300, 3_600];
+const VALIDITY: [i64; 3] = [USED_VALID as i64, PROMISED_VALID as i64, STATE_VALID as i64];
 
 /// Changes a plain claim so that it stands on an edge or one past it; None where the disk doesn't allow it.
 pub fn aimed(chance: &mut Chance, disk: &Disk, asked: &mut Fields) -> Option<Aim> {

@@ -6,6 +6,7 @@ use crate::event::{Call, Event, Why};
 use second::watch::Watch;
 use second::{encode, sound, Desk, Outcome, ANSWER, BOARD, DISKS, HEAD, PART};
 use std::ops::Range;
+use stopblocker::layout::part;
 
 /// The desk that is on trial.
 pub trait Step {
@@ -183,7 +184,7 @@ impl<S: Step> Beside<S> {
 
     /// Moves the value of used from outside without a word to the watch, which has to see it.
     pub fn move_used(&mut self, disk: usize, value: i32) {
-        let at = part_of(disk).start + 16;
+        let at = part_of(disk).start + part::USED;
         for board in [&mut self.board, &mut self.expected] {
             board[at..at + 4].copy_from_slice(&value.to_le_bytes());
         }

@@ -3,6 +3,7 @@
 
 use crate::edges::Aim;
 use second::{ANSWER, BOARD, PART, RECORD};
+use stopblocker::layout::{record, CLAIM, DISKS};
 
 /// The longest record that is tried.
 pub const LONGEST: usize = 2 * RECORD;
@@ -45,12 +46,13 @@ impl Call {
 
     /// Whether it claims a reading.
     pub fn reads(&self) -> bool {
-        self.bytes[2] == 2 && (4..=6).contains(&self.bytes[4])
+        self.bytes[record::KIND] == CLAIM && (4..=6).contains(&self.bytes[record::METHOD])
     }
 
     /// The disk that the record names, if the board has it.
     pub fn disk(&self) -> Option<usize> {
-        (self.len == RECORD as u8 && self.bytes[3] < 64).then_some(usize::from(self.bytes[3]))
+        let disk = usize::from(self.bytes[record::DISK]);
+        (self.len == RECORD as u8 && disk < DISKS).then_some(disk)
     }
 
     /// Other bytes in a record of the right length; whether they are others.
@@ -65,7 +67,7 @@ impl Call {
 
     /// The record of a call of this kind (1 open, 2 claim, 3 release), to be changed.
     pub fn of_kind(&mut self, kind: u8) -> Option<&mut [u8]> {
-        (self.len == RECORD as u8 && self.bytes[2] == kind).then_some(&mut self.bytes[..RECORD])
+        (self.len == RECORD as u8 && self.bytes[record::KIND] == kind).then_some(&mut self.bytes[..RECORD])
     }
 }
 

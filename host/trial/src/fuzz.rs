@@ -8,6 +8,7 @@ use second::record::{self, Fields};
 use second::{encode, Desk, Outcome, ANSWER, BOARD, HEAD, PART, RECORD};
 use std::os::raw::{c_int, c_void};
 use std::sync::atomic::{AtomicU64, Ordering};
+use stopblocker::layout::{part, SLOT_BYTES};
 
 /// The exported call as a C program sees it.
 pub type Raw = unsafe extern "C" fn(*mut u8, usize, *const u8, usize, *mut u8, usize) -> u32;
@@ -160,7 +161,8 @@ fn some_record(chance: &mut Chance, board: &[u8], board_len: usize) -> Vec<u8> {
         BOARD => u32::from_le_bytes(board[at..at + 4].try_into().expect("four bytes")),
         _ => 0,
     };
-    let slot = chance.one_of(&[64, 64 + 44, 64 + 44 * 7, 416, 416 + 44]);
+    let (active, waiting) = (|k| part::ACTIVE + SLOT_BYTES * k, |k| part::WAITING + SLOT_BYTES * k);
+    let slot = chance.one_of(&[active(0), active(1), active(7), waiting(0), waiting(1)]);
     let now = word(at).wrapping_add(chance.one_of(&[0, 0, 1, 300, u32::MAX]));
     let fields = Fields { disk, method: chance.below(8) as u8, now, ..Fields::default() };
     let record = match chance.below(4) {

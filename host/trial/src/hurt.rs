@@ -2,26 +2,16 @@
 
 use crate::chance::Chance;
 use second::{Claim, Disk, PART};
+use stopblocker::layout::{part, SLOT_BYTES};
 
-/// Places in a slot.
-pub const TICKET: usize = 0;
-pub const METHOD: usize = 4;
-pub const PRIORITY: usize = 8;
-pub const FLAG: usize = 12;
-pub const MEASURED: usize = 16;
-pub const VALUE: usize = 20;
-pub const ERROR: usize = 24;
-pub const TOLD: usize = 28;
-pub const AMOUNT: usize = 32;
-pub const SPARE: [usize; 2] = [36, 40];
-pub const SLOT: usize = 44;
-
+/// Where the slot of an active claim begins in a part.
 pub const fn active(k: usize) -> usize {
-    64 + SLOT * k
+    part::ACTIVE + SLOT_BYTES * k
 }
 
+/// Where the slot of a waiting claim begins in a part.
 pub const fn waiting(k: usize) -> usize {
-    416 + SLOT * k
+    part::WAITING + SLOT_BYTES * k
 }
 
 pub struct Hurt<'a> {

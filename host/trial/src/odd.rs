@@ -2,8 +2,9 @@
 
 use crate::chance::Chance;
 use second::{entry, Action, Attribute, Claim, Disk, Entry, Method};
+use stopblocker::layout::MOST_VALUE;
 
-pub const BILLION: i64 = 1_000_000_000;
+pub const BILLION: i64 = MOST_VALUE as i64;
 pub const LAST_SECOND: i64 = u32::MAX as i64;
 /// How many claims are active, and how many wait.
 const COUNTS: &[i64] = &[0, 1, 3, 7, 8, 8];

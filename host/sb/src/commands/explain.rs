@@ -10,6 +10,7 @@ use crate::pieces::{self, Piece};
 use crate::record::Record;
 use crate::words::Teller;
 use crate::write_text::line_of;
+use stopblocker::Disk;
 
 pub const COMMAND: Command =
     Command { name: "explain", help: HELP, takes: Takes { values: &["--records"], flags: &[], file: true }, run };
@@ -89,8 +90,8 @@ fn may_answer(line: &Line, record: &Record) -> bool {
     match (record, line.item.code) {
         (_, 9) => true,
         (_, 10) => false,
-        (_, 11) => line.disk == record.disk() && line.disk > 63,
-        _ if line.disk != record.disk() || line.disk > 63 => false,
+        (_, 11) => line.disk == record.disk() && Disk::new(line.disk).is_none(),
+        _ if line.disk != record.disk() || Disk::new(line.disk).is_none() => false,
         (Record::Release { .. }, 0) => line.of_pass,
         _ if line.of_pass => false,
         (Record::Open { .. }, 3) => in_range,
