@@ -1,10 +1,10 @@
-//! How workloads are made: a board, calls on it, and the tickets that they hold.
+//! Makes workloads: a board, calls on it, and the tickets that are held.
 
 use crate::chance::Chance;
 use stopblocker::layout::{item, part_at, word_at, ANSWER_BYTES, BOARD_BYTES, RECORD_BYTES};
 use stopblocker::{step, Claim, Disk, Open, Release, Request};
 
-/// A record, and how many of its bytes and of the answer buffer's are lent: but for a few refusals, all.
+/// A record, and how many bytes of it and of the answer buffer are lent: all, except to cause a few refusals.
 #[derive(Clone, Copy)]
 pub struct Call {
     pub record: [u8; RECORD_BYTES],
@@ -41,7 +41,7 @@ pub struct Making {
 }
 
 impl Making {
-    /// Open disks with figures, each reported, promised and set once.
+    /// So many open disks; on each, used, promised and the state were written once.
     pub fn new(disks: u8, seed: u64) -> Making {
         let mut making = Making {
             board: vec![0; BOARD_BYTES],
@@ -64,7 +64,7 @@ impl Making {
         making
     }
 
-    /// What has been made stands at the start of the workload.
+    /// Begins the workload: the board as it is now, and no calls yet.
     pub fn begin(&mut self) -> Vec<u8> {
         self.calls.clear();
         self.board.clone()
@@ -95,7 +95,7 @@ impl Making {
         word_at(&self.board, part_at(usize::from(d)) + at)
     }
 
-    /// A claim as people make them: half of them readings.
+    /// A claim as people make them: half of all claims are readings.
     pub fn any_claim(&mut self, d: u8) -> Claim {
         let (disk, now) = (disk(d), self.now);
         let used = 40_000 + 100 * i32::from(d) + self.chance.below(400) as i32;

@@ -38,16 +38,16 @@ const EDGES: [u32; 24] = [
     0xffff_ffff,
 ];
 
-/// Random calls on five disks, most of them well formed, with limits and values that meet; now and then a word of a part
-/// is changed on both boards before a call, and put back after it where the disk would only be refused from then on.
-/// Gives how often each code came.
+/// Makes random calls on five disks, most of them well formed, with values close to the limits. Now and then it changes a
+/// word of a part on both boards before a call; if that would only cause refusals from then on, it puts the part back.
+/// Returns how often each code came.
 pub fn on_random_calls(calls: u64, seed: u64) -> Result<[u64; 22], String> {
     let mut chance = Chance::new(seed);
     let mut both = Both::new(&vec![0; BOARD_BYTES]);
     let mut now = 0;
     let mut codes = [0; 22];
     for n in 0..calls {
-        // a disk's tickets and figures run out: every so often all begins anew
+        // begin again now and then, before tickets run out and figures reach their ends
         if n % 5_000 == 0 {
             both = Both::new(&vec![0; BOARD_BYTES]);
             now = chance.one(&[0, 1_000, 4_294_960_000]);
@@ -78,7 +78,7 @@ pub fn on_random_calls(calls: u64, seed: u64) -> Result<[u64; 22], String> {
     Ok(codes)
 }
 
-/// A word of a part, mostly of the head or of slots that hold claims.
+/// The offset of a word in a part, mostly in the head or in slots that hold claims.
 fn any_place(chance: &mut Chance) -> usize {
     match chance.below(4) {
         0 => 4 * chance.below(16) as usize,
@@ -90,7 +90,7 @@ fn any_place(chance: &mut Chance) -> usize {
     }
 }
 
-/// A word of the part at a place, and what to make of it.
+/// The offset of a word in the part, and the word to put there.
 fn any_damage(chance: &mut Chance, board: &[u8], part_at: usize) -> (usize, u32) {
     let word = |at: usize| word_at(board, part_at + at);
     let place = any_place(chance);
@@ -101,12 +101,12 @@ fn any_damage(chance: &mut Chance, board: &[u8], part_at: usize) -> (usize, u32)
         3 => word(any_place(chance)),
         4 => word(part::CLOCK).wrapping_add(chance.below(3) as u32).wrapping_sub(1),
         5 => {
-            // as many tickets as there are claims, or one more, or none left
+            // the next ticket: the number of claims, one more, or none left
             let claims = word(part::ACTIVE_COUNT).wrapping_add(word(part::WAITING_COUNT));
             return (part::NEXT_TICKET, chance.one(&[1, claims, claims.wrapping_add(1), MOST_TICKET + 1]));
         }
         6 => {
-            // as much promised as the active adds leave, or one more
+            // the most that promised may be beside the active adds, or one more
             let slots = (0..CLAIMS).map(|k| part::ACTIVE + SLOT_BYTES * k);
             let adds = slots.filter(|at| word(at + slot::METHOD) == 1);
             let sum = adds.fold(0, |sum, at| u32::wrapping_add(sum, (word(at + slot::VALUE) as i32).unsigned_abs()));

@@ -30,7 +30,7 @@ fn one_call(name: &'static str, mut making: Making, request: Request, code: u32)
     Workload { name, board, calls: vec![Call::of(request.record())], in_rows: true }
 }
 
-/// So many readings, a SetState before them if asked for, and so many ReadStates, which wait for it.
+/// A SetState if asked for, then so many ReadLoads, then so many ReadStates, which wait for the SetState.
 fn before(set: bool, readings: usize, waiting: usize) -> Vec<Claim> {
     let mut claims = Vec::new();
     if set {
@@ -43,7 +43,7 @@ fn before(set: bool, readings: usize, waiting: usize) -> Vec<Claim> {
 
 const NOW: u32 = 1_000;
 
-/// The ticket of the first claim that a situation makes: three were made and released before.
+/// The first ticket of a situation's claims: tickets 1 to 3 were released before.
 const FIRST: u32 = 4;
 
 /// The last slot of a part.

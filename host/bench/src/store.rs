@@ -1,7 +1,7 @@
 //! The board kept by SQLite in memory: a row for each open disk, a row for each claim. A call is one transaction of
 //! prepared statements: it reads the rows of its disk, decides in code, and writes the rows that have changed. The
-//! decision, the soundness test in it, is the hand-written engine's on the disk that the rows make up, so that the time
-//! is SQLite's and hardly the rules'.
+//! hand-written engine makes the decision and the soundness test, on a part made from the rows, so that nearly all of the
+//! time is SQLite's.
 
 use crate::hand;
 use crate::sqlite::{Database, Statement};
@@ -36,7 +36,7 @@ const CLAIMS_TABLE: &str =
     "CREATE TABLE claims (disk, ticket, granted, method, priority, fresh, measured, value, error, \
     told, amount, PRIMARY KEY (disk, ticket)) WITHOUT ROWID";
 
-/// A claim's row: when it was granted among the active ones of its disk, 0 while it waits; and its words.
+/// The row of a claim: `granted` orders the active claims of a disk by their grants, and is 0 while the claim waits.
 #[derive(Clone, Copy, PartialEq)]
 struct Row {
     granted: i64,
@@ -54,7 +54,7 @@ pub struct Store {
     put_claim: Statement,
     end_claim: Statement,
     clear: [Statement; 2],
-    /// An empty board, on which one call is decided.
+    /// An empty board; a call is decided on it.
     board: Vec<u8>,
     rows: Vec<Row>,
     // the statements are dropped before it
@@ -93,7 +93,7 @@ impl Store {
         self.database.version()
     }
 
-    /// Keeps the open disks of a board, and nothing else.
+    /// Stores the open disks of a board, and forgets all others.
     pub fn load(&mut self, board: &[u8]) {
         self.begin.run(&[]);
         for clear in &mut self.clear {
@@ -140,7 +140,7 @@ impl Store {
         code
     }
 
-    /// Puts a disk's rows on the empty board. Gives whether it is open.
+    /// Writes the rows of a disk to the empty board, and returns whether the disk is open.
     fn read(&mut self, disk: usize) -> bool {
         let board = &mut self.board;
         let at = part_at(disk);
@@ -175,7 +175,7 @@ impl Store {
         true
     }
 
-    /// Writes what has changed of a disk: its row, new claims, claims granted or raised, and those that have ended.
+    /// Writes the rows of a disk that have changed: its own, new claims, claims that were granted or raised, and ended ones.
     fn write(&mut self, disk: usize, new: bool) {
         let (board, at, number) = (&self.board, part_at(disk), disk as i64);
         let mut figures = [number; 1 + FIGURES];

@@ -1,5 +1,5 @@
-//! The workloads. They are made by random choices that are the same in every run; the tickets that the releases name are
-//! those that the desk has given out.
+//! The workloads. They are made by random choices that are the same in every run; the desk has given out the tickets that
+//! are released.
 
 use crate::making::{disk, Call, Making, Workload};
 use stopblocker::layout::{
@@ -39,8 +39,8 @@ fn readers() -> Workload {
     Workload { name: "readers", board, calls: making.calls, in_rows: true }
 }
 
-/// Eight disks with seven or eight active claims and some that wait: a release, whose pass tries them, then claims until
-/// it is as full again.
+/// Eight disks with seven or eight active claims and some that wait: a release, whose pass tries the waiting ones, then
+/// claims until the disk is as full as before.
 fn busy() -> Workload {
     let mut making = Making::new(BUSY_DISKS, 2);
     for d in 0..BUSY_DISKS {
@@ -67,7 +67,7 @@ fn fill(making: &mut Making, d: u8) {
     }
 }
 
-/// Each refusal in turn, 9 to 21, each on a board where only it applies.
+/// The refusals 9 to 21, one after the other; for each call only one refusal applies.
 fn refused() -> Workload {
     let mut making = Making::new(OPEN_DISKS, 3);
     let (idle, full, spent, broken, closed) = (disk(0), disk(1), disk(2), disk(3), disk(60));

@@ -5,7 +5,7 @@ use crate::record::{Claim, Record};
 use stopblocker::layout::{MOST_ERROR, MOST_STATE, MOST_VALUE};
 use stopblocker::{Method, Refusal};
 
-/// A hint, closer where the record is known.
+/// A hint; it says more if the record is known.
 pub fn of(refusal: Refusal, asked: Option<&Result<Record, String>>) -> String {
     match (refusal, asked) {
         (Refusal::Record, Some(Err(why))) => why.clone(),
@@ -15,7 +15,7 @@ pub fn of(refusal: Refusal, asked: Option<&Result<Record, String>>) -> String {
     }
 }
 
-/// Why a write's own error exceeds its attribute's limit, which an open has set, but for the state's.
+/// Why a write's own error exceeds its attribute's limit. The open has set the limits, except the state's, which is 0.
 fn of_own_error(claim: &Claim) -> String {
     let own = grouped(claim.error.into());
     match claim.known_method() {
@@ -30,7 +30,7 @@ fn above_limit(own: &str, attribute: &str) -> String {
     format!("the own error {own} is above the limit that the open gave {attribute}; {todo}")
 }
 
-/// Every field of a record that refusal 17 looks at and finds out of range.
+/// Every field of a record that is out of range, which refusal 17 is for.
 pub fn out_of_range(record: &Record) -> Vec<String> {
     match record {
         Record::Open { used_limit, promised_limit, .. } => [("used", *used_limit), ("promised", *promised_limit)]
@@ -92,7 +92,7 @@ mod tests {
     use stopblocker::layout::{ANSWER_BYTES, BOARD_BYTES};
     use stopblocker::step;
 
-    /// On an empty disk, on all edges: a field is named exactly where the desk refuses 17.
+    /// On an opened disk, at all edges: a field is named exactly if the desk refuses 17.
     #[test]
     fn refusal_17_and_no_other() {
         let open = Record::Open { disk: 3, now: 7, used_limit: MOST_ERROR, promised_limit: MOST_ERROR };

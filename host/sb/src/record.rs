@@ -1,5 +1,5 @@
-//! A well-formed record, whatever it asks: a disk above 63, a method above 6 or a field out of range is for the desk to
-//! refuse. So it is wider than the crate's requests, which cannot ask all of that.
+//! A well-formed record, whatever it asks. It may have a disk above 63, a method above 6 or a field out of range, which the
+//! desk refuses; the crate's requests cannot ask for that.
 
 use std::ops::Range;
 use stopblocker::layout::{begun, put_signed, put_word, record as at, signed_at, word_at};
@@ -27,14 +27,14 @@ pub struct Claim {
 }
 
 impl Claim {
-    /// The method that its number names, if it is one.
+    /// The method of its number; none if the number is unknown.
     pub fn known_method(&self) -> Option<Method> {
         Method::of(u32::from(self.method))
     }
 }
 
 impl Record {
-    /// The record of these bytes, or why they are none: what refusal 10 looks at.
+    /// The record of these bytes, or why the desk would refuse them 10.
     pub fn of(bytes: &[u8]) -> Result<Record, String> {
         if bytes.len() != RECORD_BYTES {
             return Err(format!("{} bytes, expected {RECORD_BYTES}", bytes.len()));
@@ -122,8 +122,8 @@ mod tests {
     use stopblocker::layout::{ANSWER_BYTES, BOARD_BYTES};
     use stopblocker::step;
 
-    /// Every byte of three records in turn takes every value: it is a record exactly where the desk does not refuse 10,
-    /// and then it gives back its bytes.
+    /// Every byte of three records takes every value: it is a record exactly if the desk does not refuse 10, and then it
+    /// gives back its bytes.
     #[test]
     fn refusal_10_and_no_other() {
         let claim = Claim { disk: 3, now: 9, method: 2, priority: 5, fresh: true, measured: 8, value: -7, error: 6 };
@@ -144,7 +144,7 @@ mod tests {
                 }
             }
         }
-        // The mark; the kind, where an open and a release make claims too; the unused bytes; the claim's flag.
+        // The mark; the kind (an open and a release with kind 2 are claims); the unused bytes; the claim's flag.
         assert_eq!(refused, 3 * 2 * 255 + (254 + 255 + 254) + (8 + 1 + 12) * 255 + 254);
         assert_eq!(Record::of(&open.bytes()[..23]), Err("23 bytes, expected 24".to_string()));
         assert!(Record::of(&[&open.bytes()[..], &[0]].concat()).is_err() && Record::of(&[]).is_err());

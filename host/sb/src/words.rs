@@ -1,4 +1,4 @@
-//! An answer in words, closer where the requests are known.
+//! An answer in words; it says more if the requests are known.
 
 use crate::hint;
 use crate::line::Line;
@@ -16,14 +16,14 @@ struct Known {
     active: bool,
 }
 
-/// Says answers in their order, and remembers what each ticket is for.
+/// Says answers in words, one after the other, and remembers what each ticket is for.
 #[derive(Default)]
 pub struct Teller {
     claims: HashMap<(u8, u32), Known>,
 }
 
 impl Teller {
-    /// One that knows the claims that stand on a board.
+    /// A teller that knows the claims on a board.
     pub fn of(board: &Board) -> Teller {
         let mut teller = Teller::default();
         for disk in Disk::all() {
@@ -35,7 +35,7 @@ impl Teller {
         teller
     }
 
-    /// The answer that a line carries, given what was asked if that is known.
+    /// The answer of a line in words; `asked` is the request if it is known.
     pub fn tell(&mut self, line: &Line, asked: Option<&Result<Record, String>>) -> String {
         let Line { of_pass, record, disk, item } = *line;
         if let Some(Ok(Record::Claim(claim))) = asked {

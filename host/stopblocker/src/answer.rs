@@ -8,16 +8,16 @@ use crate::Refusal;
 pub struct Granted {
     /// The ticket to release it with.
     pub ticket: u32,
-    /// The sum of the values that a reading reads; 0 of a write.
+    /// The sum of the values that a reading reads; 0 for a write.
     pub told: i32,
-    /// A reading's own amount of error; of a write, its attribute's amount after the grant.
+    /// For a reading its own amount of error; for a write its attribute's amount after the grant.
     pub amount: u32,
 }
 
 /// A claim waits; it is tried again at each release on its disk.
 #[derive(Clone, Copy, PartialEq, Eq, Hash, Debug)]
 pub struct Waits {
-    /// The ticket that a later pass may grant, and to withdraw it with.
+    /// The ticket that a later pass may grant. Releasing it withdraws the claim.
     pub ticket: u32,
 }
 
@@ -34,7 +34,7 @@ pub struct Released {
 #[derive(Clone, Copy, PartialEq, Eq, Hash, Debug)]
 pub struct Opened;
 
-/// What a claim comes to.
+/// The answer to an accepted claim.
 #[derive(Clone, Copy, PartialEq, Eq, Hash, Debug)]
 pub enum Claimed {
     /// It is granted.
@@ -69,7 +69,7 @@ impl Claimed {
     }
 }
 
-/// What any request comes to.
+/// The answer to any accepted request.
 #[derive(Clone, PartialEq, Eq, Hash, Debug)]
 pub enum Answer {
     /// Code 0.

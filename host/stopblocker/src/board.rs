@@ -24,10 +24,10 @@ pub struct Board {
     bytes: Box<[u8]>,
 }
 
-/// Bytes that are no board, since a board has 49,216.
+/// The error for bytes that are not a board: a board has 49,216.
 #[derive(Clone, Copy, PartialEq, Eq, Debug)]
 pub struct WrongLength {
-    /// How many they are.
+    /// How many bytes there were.
     pub length: usize,
 }
 
@@ -102,7 +102,7 @@ impl Board {
         self.bytes[..OPEN_BYTES].iter().map(|byte| byte.count_ones()).sum()
     }
 
-    /// An open disk as it stands on the board; none of a closed one.
+    /// An open disk as it stands on the board; none if the disk is closed.
     pub fn disk(&self, disk: Disk) -> Option<DiskView<'_>> {
         let at = part_at(usize::from(disk.number()));
         self.is_open(disk).then(|| DiskView::of(&self.bytes[at..at + PART_BYTES]))

@@ -5,8 +5,8 @@ use crate::{Claim, Disk};
 
 /// Opens a disk: values and amounts 0, stamps and clock = now, next ticket 1, no claims.
 ///
-/// Its limits are of errors, not of the disk's size, and stand as long as the board does: a second open is refused 12, and
-/// nothing closes a disk.
+/// Its limits are the most error that used and promised may carry, not the disk's capacity. They cannot be changed on this
+/// board: a second open is refused 12, and nothing closes a disk.
 #[derive(Clone, Copy, PartialEq, Eq, Hash, Debug)]
 pub struct Open {
     disk: Disk,
@@ -16,7 +16,7 @@ pub struct Open {
 }
 
 impl Open {
-    /// An open at second `now`, with the limits of the errors of used and promised, 0 to 2,000,000,000 each.
+    /// An open at second `now`, with the limits of used and promised, 0 to 2,000,000,000 each.
     pub const fn new(disk: Disk, now: u32, used_limit: u32, promised_limit: u32) -> Open {
         Open { disk, now, used_limit, promised_limit }
     }

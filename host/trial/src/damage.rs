@@ -1,4 +1,4 @@
-//! Damaged parts: each clause of 01's "Sound" broken by itself, and several at once.
+//! Ways to damage a part: each breaks one clause of 01's "Sound", the last one several.
 
 use crate::hurt::*;
 use crate::odd::BILLION;
@@ -88,7 +88,7 @@ fn count_above_8(h: &mut Hurt, at: usize, count: usize) -> bool {
     h.one(&[at], &[9, 10, 255, 256 + count as i64, (1 << 31) + count as i64, LAST])
 }
 
-/// One claim fewer than there are, or one more: the next slot is all zeros, and 0 is no ticket.
+/// A count that is one too low, or one too high: then a slot of zeros counts as a claim, whose ticket 0 isn't sound.
 fn off_by_one(h: &mut Hurt) -> bool {
     let counts = [(part::ACTIVE_COUNT, h.disk.active.len() as i64), (part::WAITING_COUNT, h.disk.waiting.len() as i64)];
     let (at, count) = h.chance.one_of(&counts);
@@ -170,7 +170,7 @@ fn never(h: &mut Hurt) -> bool {
     pair.is_some()
 }
 
-/// |promised| and all that is added come to 1,000,000,001.
+/// Makes the sum of |promised| and of all active |d| 1,000,000,001.
 fn adds_over(h: &mut Hurt) -> bool {
     h.pick(&h.active(Claim::is_add)).map_or(false, |(slot, add)| {
         let others = h.disk.attributes[1].value.abs() + h.disk.sum_of_active_adds() - add.value.abs();

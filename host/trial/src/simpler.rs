@@ -7,7 +7,7 @@ use stopblocker::layout::{part, record, CLAIM, CLAIMS, SLOT_BYTES};
 /// How many changes there are to try on an event.
 pub const CHANGES: usize = RECORD_CHANGES.len() + 2 * CLAIMS + PART / 4;
 
-/// Places and bytes of a record: the usual priority, no flag, and 0 for every word but now.
+/// Offsets in a record, and simpler bytes for them: the usual priority, no flag, and 0 for every word but now.
 const RECORD_CHANGES: [(usize, &[u8]); 5] = [
     (record::PRIORITY, &[5]),
     (record::FRESH, &[0]),
@@ -47,7 +47,7 @@ pub fn at_once(events: &mut [Event]) -> bool {
     changed
 }
 
-/// Zero for a word that is something else.
+/// Makes a word zero; false if it was.
 fn clear_word(part: &mut [u8; PART], word: usize) -> bool {
     let word = &mut part[4 * word..4 * (word + 1)];
     let had = *word != [0; 4];
@@ -55,7 +55,7 @@ fn clear_word(part: &mut [u8; PART], word: usize) -> bool {
     had
 }
 
-/// Without the claim of a slot, active ones first; those behind it move up.
+/// Leaves out the claim of a slot, counted over the active and then the waiting ones; the claims behind it move up.
 fn leave_out_claim(bytes: &mut [u8; PART], slot: usize) -> bool {
     let active = slot < CLAIMS;
     let count_at = if active { part::ACTIVE_COUNT } else { part::WAITING_COUNT };

@@ -1,5 +1,5 @@
-//! Desks that are wrong: those that 01 names to try a promise against, and some that are wrong in one thing. The trial has to see
-//! each of them.
+//! Wrong desks: those that 01 names to try a promise against, and some that are wrong in one thing. The trial must detect each of
+//! them.
 
 use crate::beside::{Proved, Step};
 use stopblocker::layout::{
@@ -7,7 +7,7 @@ use stopblocker::layout::{
     ITEM_BYTES, MOST_TICKET, OPEN, PART_BYTES, RECORD_BYTES, RELEASE, SLOT_BYTES,
 };
 
-/// What is wrong.
+/// A wrong desk's call.
 pub type Wrong = fn(&mut [u8], &[u8], &mut [u8]) -> u32;
 
 pub const WRONGS: &[(&str, Wrong)] = &[
@@ -43,7 +43,7 @@ fn right(board: &mut [u8], record: &[u8], answer: &mut [u8]) -> u32 {
     Proved.step(board, record, answer)
 }
 
-/// About one record in 100,000, the same ones in every run.
+/// True for about one record in 100,000, the same ones in every run.
 fn seldom(record: &[u8]) -> bool {
     let mix = |sum: u64, byte: &u8| (sum ^ u64::from(*byte)).wrapping_mul(0x100_0000_01b3);
     (record.iter().fold(0xcbf2_9ce4_8422_2325, mix) >> 20) % 100_000 == 7
@@ -162,7 +162,7 @@ fn answer_kept(board: &mut [u8], record: &[u8], answer: &mut [u8]) -> u32 {
     code
 }
 
-/// 9 stands in the answer buffer.
+/// Refusal 9 writes its number to the answer buffer.
 fn nine_touches(board: &mut [u8], record: &[u8], answer: &mut [u8]) -> u32 {
     let code = right(board, record, answer);
     if code == 9 && answer.len() >= 4 {
@@ -179,7 +179,7 @@ fn code_only(board: &mut [u8], record: &[u8], answer: &mut [u8]) -> u32 {
     }
 }
 
-/// 21 sets the clock.
+/// Refusal 21 sets the clock.
 fn refusal_writes(board: &mut [u8], record: &[u8], answer: &mut [u8]) -> u32 {
     let code = right(board, record, answer);
     if code == 21 {
@@ -188,7 +188,7 @@ fn refusal_writes(board: &mut [u8], record: &[u8], answer: &mut [u8]) -> u32 {
     code
 }
 
-/// A claim is granted also where it would be at one priority higher.
+/// A claim is also granted if it would be granted with a priority higher by one.
 fn equal_priority_bars_not(board: &mut [u8], record: &[u8], answer: &mut [u8]) -> u32 {
     if !fits(board, record) || record[at::KIND] != CLAIM || record[at::PRIORITY] == u8::MAX {
         return right(board, record, answer);
@@ -207,7 +207,7 @@ fn equal_priority_bars_not(board: &mut [u8], record: &[u8], answer: &mut [u8]) -
     0
 }
 
-/// A fresh reading is decided one second early.
+/// A reading that asks for fresh figures is decided as if it came one second earlier.
 fn fresh_one_second_longer(board: &mut [u8], record: &[u8], answer: &mut [u8]) -> u32 {
     let asks = fits(board, record) && record[at::KIND] == CLAIM && record[at::METHOD] >= 4 && record[at::FRESH] == 1;
     if !asks {
