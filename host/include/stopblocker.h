@@ -1,5 +1,5 @@
-/* The desk for C and C++: one call on lent bytes. Link target/host/libstopblocker.a (host/build makes it); it needs
- * memcpy, memmove and memset and nothing else. docs/HOST.md tells how, docs/LAYOUT.md has every byte.
+/* The desk for C and C++: one call on lent bytes. Link target/host/libstopblocker.a (host/build makes it); it asks the C
+ * library for memset and nothing else. docs/HOST.md tells how, docs/LAYOUT.md has every byte.
  *
  * All numbers are little-endian. A word is four bytes; a signed word is in two's complement. */
 #ifndef STOPBLOCKER_H
@@ -13,9 +13,9 @@ extern "C" {
 #endif
 
 /* One call: a request record on a board. Returns the code of the answer's first item, or 9.
- * Any bytes may be lent, of any length; the three must not overlap. A refusal leaves the board as it was; 9 leaves the
- * answer as it was too, every other call writes all of it. The call keeps nothing: two boards are two desks, and calls
- * on one board come one at a time. */
+ * The three buffers may have any length and hold any bytes, but must not overlap. A refusal leaves the board as it was; 9
+ * leaves the answer as it was too, every other call writes all of it. The call keeps no state of its own: make one call at
+ * a time on one board; calls on two boards may run at the same time. */
 uint32_t step(uint8_t *board, size_t board_len, const uint8_t *record, size_t record_len, uint8_t *answer, size_t answer_len);
 
 /* Sizes, in bytes, and counts. All zeros is the empty board. */
@@ -29,7 +29,7 @@ enum {
     SB_ANSWER_BYTES = 144,
     SB_ITEM_BYTES = 16,
     SB_DISKS = 64,
-    SB_CLAIMS = 8, /* at most so many active and so many waiting on a disk */
+    SB_CLAIMS = 8, /* the most active claims of a disk, and the most waiting ones */
     SB_ITEMS = 9   /* the call's own answer, then the grants of its pass in order */
 };
 
@@ -92,7 +92,7 @@ enum {
     SB_REFUSED_TICKET = 21     /* release of a ticket neither active nor waiting */
 };
 
-/* Places in a record. Bytes unused by open (4 to 6, 12 to 15) and release (4 to 6, 16 to 23) are zero. */
+/* Offsets in a record. Bytes unused by open (4 to 6, 12 to 15) and release (4 to 6, 16 to 23) are zero. */
 enum {
     SB_MARK_0 = 0x52,
     SB_MARK_1 = 0x42,
@@ -113,7 +113,7 @@ enum {
     SB_RECORD_PROMISED_LIMIT = 20  /* word, open: the most that promised may be off by */
 };
 
-/* Places in an item of the answer; item k begins at SB_ITEM_BYTES * k. Unused items are zero. */
+/* Offsets in an item of the answer; item k begins at SB_ITEM_BYTES * k. Unused items are zero. */
 enum {
     SB_ITEM_CODE = 0,   /* word */
     SB_ITEM_TICKET = 4, /* word */
@@ -121,7 +121,7 @@ enum {
     SB_ITEM_AMOUNT = 12 /* word */
 };
 
-/* Places in a part; the part of disk d begins at SB_HEAD_BYTES + SB_PART_BYTES * d. */
+/* Offsets in a part; the part of disk d begins at SB_HEAD_BYTES + SB_PART_BYTES * d. */
 enum {
     SB_PART_CLOCK = 0, /* word: second of the last accepted call */
     SB_PART_NEXT_TICKET = 4,
@@ -130,11 +130,12 @@ enum {
     SB_PART_USED = 16,     /* a figure */
     SB_PART_PROMISED = 32, /* a figure */
     SB_PART_STATE = 48,    /* a figure without amount and limit */
+    SB_PART_ZERO = 56,     /* two words that are zero */
     SB_PART_ACTIVE = 64,   /* slots, in the order of their grants */
     SB_PART_WAITING = 416  /* slots, in the order of the pass */
 };
 
-/* Places in a figure. */
+/* Offsets in a figure. */
 enum {
     SB_FIGURE_VALUE = 0,  /* signed word */
     SB_FIGURE_STAMP = 4,  /* word: second of measuring of the last set that was released, or of the open */
@@ -142,21 +143,22 @@ enum {
     SB_FIGURE_LIMIT = 12  /* word: the most that its amount may be, from the open */
 };
 
-/* Places in a slot. */
+/* Offsets in a slot. */
 enum {
     SB_SLOT_TICKET = 0,
     SB_SLOT_METHOD = 4,
     SB_SLOT_PRIORITY = 8,
     SB_SLOT_FRESH = 12,
-    SB_SLOT_MEASURED = 16,     /* 0 of a reading */
-    SB_SLOT_VALUE = 20,        /* signed word; 0 of a reading */
+    SB_SLOT_MEASURED = 16,     /* 0 for a reading */
+    SB_SLOT_VALUE = 20,        /* signed word; 0 for a reading */
     SB_SLOT_OWN_ERROR = 24,    /* of a write */
     SB_SLOT_STATED_LIMIT = 24, /* of a reading */
-    SB_SLOT_TOLD = 28,         /* signed word: an active reading's; else 0 */
-    SB_SLOT_AMOUNT = 32        /* an active reading's; else 0 */
+    SB_SLOT_TOLD = 28,         /* signed word: of an active reading; else 0 */
+    SB_SLOT_AMOUNT = 32,       /* of an active reading; else 0 */
+    SB_SLOT_ZERO = 36          /* two words that are zero */
 };
 
-/* A word, a signed word, and a word put in its place. */
+/* Reads a word and a signed word, and puts a word, at an offset. */
 static inline uint32_t stopblocker_word(const uint8_t *bytes, size_t at) {
     return (uint32_t)bytes[at] | (uint32_t)bytes[at + 1] << 8 | (uint32_t)bytes[at + 2] << 16 | (uint32_t)bytes[at + 3] << 24;
 }
@@ -170,7 +172,7 @@ static inline void stopblocker_put(uint8_t *bytes, size_t at, uint32_t word) {
     for (int i = 0; i < 4; i++) bytes[at + (size_t)i] = (uint8_t)(word >> 8 * i);
 }
 
-/* A record with its mark, kind, disk and second, and zeros behind. */
+/* Writes a record with mark, kind, disk and second, and zeros behind. */
 static inline void stopblocker_begin(uint8_t record[SB_RECORD_BYTES], uint8_t kind, uint8_t disk, uint32_t now) {
     for (int i = 0; i < SB_RECORD_BYTES; i++) record[i] = 0;
     record[SB_RECORD_MARK] = SB_MARK_0;
@@ -180,8 +182,8 @@ static inline void stopblocker_begin(uint8_t record[SB_RECORD_BYTES], uint8_t ki
     stopblocker_put(record, SB_RECORD_NOW, now);
 }
 
-/* The record of an open, of a write, of a reading, of a release. The limits of an open are of errors, in MiB: the desk
- * does not know how large a disk is. They stand as long as the board does. */
+/* Write the record of an open, a write, a reading and a release. The limits of an open are the most error, in MiB, that used
+ * and promised may carry. They are not the disk's capacity, and cannot be changed on this board. */
 static inline void stopblocker_open(uint8_t record[SB_RECORD_BYTES], uint8_t disk, uint32_t now, uint32_t used_limit, uint32_t promised_limit) {
     stopblocker_begin(record, SB_OPEN, disk, now);
     stopblocker_put(record, SB_RECORD_USED_LIMIT, used_limit);
@@ -220,8 +222,8 @@ struct stopblocker_item {
     uint32_t amount;
 };
 
-/* Item k, 0 to 8. Item 0 is the call's own; behind a release's stand the grants of its pass, and the first item with ticket
- * 0 ends them. */
+/* Item k, 0 to 8. Item 0 is the call's own answer. After a release, items 1 and on are the grants of its pass, up to the
+ * first item with ticket 0. */
 static inline struct stopblocker_item stopblocker_item_at(const uint8_t answer[SB_ANSWER_BYTES], int k) {
     const uint8_t *bytes = answer + SB_ITEM_BYTES * k;
     struct stopblocker_item item;
@@ -237,7 +239,7 @@ static inline int stopblocker_is_open(const uint8_t *board, uint8_t disk) { retu
 
 static inline size_t stopblocker_part(uint8_t disk) { return SB_HEAD_BYTES + (size_t)SB_PART_BYTES * disk; }
 
-/* What a refusal says; an empty text for a code that is none. */
+/* What a refusal says; an empty text if the code is no refusal. */
 static inline const char *stopblocker_refusal(uint32_t code) {
     switch (code) {
     case SB_REFUSED_LENGTH: return "board or answer buffer of another length; neither is touched";
@@ -259,7 +261,7 @@ static inline const char *stopblocker_refusal(uint32_t code) {
     }
 }
 
-/* What a caller can do about it; an empty text for a code that is no refusal. */
+/* What a caller can do about it; an empty text if the code is no refusal. */
 static inline const char *stopblocker_what_to_do(uint32_t code) {
     switch (code) {
     case SB_REFUSED_LENGTH: return "lend a board of 49,216 bytes and an answer buffer of 144";

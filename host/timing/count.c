@@ -1,6 +1,6 @@
-// One call of the desk in thirteen situations. Without an argument each is called once, between two marks that a trace
-// shows; with one, it prints the ns that each takes. The few functions of the C library that it uses are declared here,
-// so that it compiles for x86-64 where there are no headers for x86-64.
+// One call of the desk in thirteen situations. Without an argument it makes each call once, between two calls of mark(),
+// which a trace shows; with an argument it prints the ns of each. It declares the functions of the C library and the numbers
+// that it uses itself, because it is also compiled for x86-64 on machines that have no headers for x86-64.
 typedef unsigned char byte;
 typedef unsigned int word;
 typedef unsigned long size;
@@ -36,7 +36,7 @@ static void ask(int kind, int disk, int method, word twelve, word sixteen, word 
 
 static word call(void) { return step(board, BOARD, record, RECORD, answer, ANSWER); }
 
-// A call that makes the board ready, and must be accepted.
+// A call that prepares the board, and must be accepted.
 static void ready(int kind, int method, word twelve, word sixteen, word twenty) {
     ask(kind, DISK, method, twelve, sixteen, twenty);
     word code = call();
@@ -54,7 +54,7 @@ static void fresh(void) {
 
 __attribute__((noinline)) void mark(void) { __asm__ volatile(""); }
 
-// What a turn takes without the call.
+// Called in place of step, to measure what the loop takes without a call.
 __attribute__((noinline)) word nothing(byte *b, size bl, const byte *r, size rl, byte *a, size al) {
     __asm__ volatile("" ::"r"(b), "r"(r), "r"(a));
     return (word)(bl + rl + al);
@@ -62,7 +62,7 @@ __attribute__((noinline)) word nothing(byte *b, size bl, const byte *r, size rl,
 
 typedef word (*stepping)(byte *, size, const byte *, size, byte *, size);
 
-// Of the processor's time, so that whatever else runs is not counted.
+// In processor time, so that other programs do not count.
 static double ns(stepping f) {
     double least = 1e9;
     for (int run = 0; run < RUNS; run++) {
@@ -81,7 +81,7 @@ static double ns(stepping f) {
 
 static int timed;
 
-// The record on the disk as it stands, which is put back.
+// Makes the call on the disk as it stands, and puts the part back.
 __attribute__((noinline)) static void measure(const char *name, word code) {
     memcpy(saved, part, PART);
     mark();

@@ -38,8 +38,7 @@ const BOARD_BYTES: usize = 49216;
 const ANSWER_BYTES: usize = 144;
 
 // One call: any bytes may be lent. The code, and what board and answer hold at the end.
-#[no_mangle]
-pub extern "C" fn step(board: &mut [u8], r: &[u8], answer: &mut [u8]) -> u32
+pub fn step(board: &mut [u8], r: &[u8], answer: &mut [u8]) -> u32
     ensures { λ n. ⌜ stepped n (now (board .exit)) (now (answer .exit)) ≡ stepOf (now (board .entry)) (now (r .entry)) (now (answer .entry)) ⌝ }
 {
     if board.len() != BOARD_BYTES {

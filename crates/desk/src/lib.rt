@@ -1,4 +1,4 @@
-// The desk: one call on lent bytes. The record and the board's frame, a call on the part of an open disk, the exported step.
+// The desk: one call on lent bytes. The record and the board's frame, a call on the part of an open disk, and `step`.
 
 pub mod board;
 pub mod record;

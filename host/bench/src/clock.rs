@@ -1,4 +1,4 @@
-//! The processor's time that this thread has had: others on the machine do not count in it. For Linux on 64 bits.
+//! The processor time of this thread, without that of other threads and programs. For Linux on 64 bits.
 
 use std::os::raw::{c_int, c_long};
 

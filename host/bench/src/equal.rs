@@ -15,11 +15,11 @@ pub struct Both {
 
 impl Both {
     pub fn new(board: &[u8]) -> Both {
-        // what stands in an answer buffer before a call must not matter
+        // a call must not depend on what the answer buffer held before
         Both { boards: [board.to_vec(), board.to_vec()], answers: [[0xa5; ANSWER_BYTES]; 2] }
     }
 
-    /// One call, on the first so many bytes of the board. Gives the code.
+    /// Makes one call on the first `board_bytes` bytes of the board, and returns the code.
     pub fn call(&mut self, call: &Call, board_bytes: usize) -> Result<u32, String> {
         let record = &call.record[..call.record_bytes];
         let [ours, theirs] = &mut self.boards;
@@ -40,7 +40,7 @@ impl Both {
     }
 }
 
-/// Runs a workload through both. Gives how often each code came.
+/// Runs a workload through both, and returns how often each code came.
 pub fn on_workload(workload: &Workload) -> Result<[u64; 22], String> {
     let mut both = Both::new(&workload.board);
     let mut codes = [0; 22];
@@ -50,7 +50,7 @@ pub fn on_workload(workload: &Workload) -> Result<[u64; 22], String> {
     Ok(codes)
 }
 
-/// Runs a workload through the desk and the store: codes and answers after each call, and the boards at the end.
+/// Runs a workload through the desk and the store: compares codes and answers after each call, and the boards at the end.
 pub fn on_store(workload: &Workload, store: &mut Store) -> Result<(), String> {
     let mut board = workload.board.clone();
     let mut answers = [[0xa5; ANSWER_BYTES]; 2];

@@ -1,10 +1,10 @@
 //! `bench time [COUNTS]`: compares the engines byte by byte, times them, and prints the tables. COUNTS is a file with the
-//! instructions that were counted: a line of name, engine and instructions of a call, with tabs between.
+//! counted instructions: on each line name, engine and instructions of a call, with tabs between.
 //!
-//! `bench names`: the workloads and situations, one a line, with a tab and the number of their calls.
+//! `bench names`: the workloads and situations, one on each line, with a tab and the number of their calls.
 //!
-//! `bench count NAME ENGINE`: one of them, once, by the engine 0, 1 or 2, to be counted from outside. All that is done
-//! beside the calls is the same for each engine, so the difference to engine 2, which does nothing, is the calls'.
+//! `bench count NAME ENGINE`: runs one of them once by engine 0, 1 or 2, so that valgrind can count. Engine 2 does nothing,
+//! and everything but the calls is the same for all three: an engine's count minus that of engine 2 is that of its calls.
 
 use bench::making::{Call, Workload};
 use bench::store::Store;
@@ -18,7 +18,7 @@ const ENGINES: [(&str, Turns); 3] = [("desk", by_desk), ("hand", by_hand), ("not
 
 const RANDOM_CALLS: u64 = 100_000;
 const REPETITIONS: usize = 400;
-/// The store is timed once in so many repetitions.
+/// The store is timed in one of this many repetitions.
 const STORE_ONCE_IN: usize = 40;
 
 fn main() {
@@ -57,7 +57,7 @@ fn read_counts(text: &str) -> Counts {
     text.lines().map(entry).collect()
 }
 
-/// The median of repetitions and the least, in ns of a call.
+/// The median and the least of all repetitions, in ns of a call.
 #[derive(Clone, Copy)]
 struct Times {
     median: f64,
@@ -75,7 +75,7 @@ impl Times {
     }
 }
 
-/// ns of a call by each engine, and by the store if there is one. The order of the engines changes with each repetition.
+/// The ns of a call by each engine, and by the store if there is one. Each repetition begins with another engine.
 fn times(workload: &Workload, store: &mut Option<Store>) -> ([Times; 3], Option<Times>) {
     let mut board = workload.board.clone();
     let mut answer = [0; ANSWER_BYTES];
@@ -119,7 +119,7 @@ fn time(counts: &Counts) {
     let workloads = workload::all();
     for workload in &all() {
         same(equal::on_workload(workload).map(|_| ()));
-        if let Some(store) = &mut store {
+        if let (Some(store), true) = (&mut store, workload.in_rows) {
             same(equal::on_store(workload, store));
         }
     }

@@ -1,10 +1,10 @@
-//! How workloads are made: a board, calls on it, and the tickets that they hold.
+//! Makes workloads: a board, calls on it, and the tickets that are held.
 
 use crate::chance::Chance;
-use stopblocker::layout::{part_at, word_at, ANSWER_BYTES, BOARD_BYTES, RECORD_BYTES};
+use stopblocker::layout::{item, part_at, word_at, ANSWER_BYTES, BOARD_BYTES, RECORD_BYTES};
 use stopblocker::{step, Claim, Disk, Open, Release, Request};
 
-/// A record, and how many of its bytes and of the answer buffer's are lent: but for a few refusals, all.
+/// A record, and how many bytes of it and of the answer buffer are lent: all, except to cause a few refusals.
 #[derive(Clone, Copy)]
 pub struct Call {
     pub record: [u8; RECORD_BYTES],
@@ -22,6 +22,8 @@ pub struct Workload {
     pub name: &'static str,
     pub board: Vec<u8>,
     pub calls: Vec<Call>,
+    /// Whether the store's rows can hold the board. They cannot where a count is not the number of claims.
+    pub in_rows: bool,
 }
 
 pub fn disk(number: u8) -> Disk {
@@ -39,7 +41,7 @@ pub struct Making {
 }
 
 impl Making {
-    /// Open disks with figures, each reported, promised and set once.
+    /// So many open disks; on each, used, promised and the state were written once.
     pub fn new(disks: u8, seed: u64) -> Making {
         let mut making = Making {
             board: vec![0; BOARD_BYTES],
@@ -62,7 +64,7 @@ impl Making {
         making
     }
 
-    /// What has been made stands at the start of the workload.
+    /// Begins the workload: the board as it is now, and no calls yet.
     pub fn begin(&mut self) -> Vec<u8> {
         self.calls.clear();
         self.board.clone()
@@ -73,7 +75,7 @@ impl Making {
         self.calls.push(Call::of(record));
         let code = step(&mut self.board, &record, &mut self.answer);
         if let (Request::Claim(claim), 0..=1) = (request, code) {
-            self.held[usize::from(claim.disk().number())].push(word_at(&self.answer, 4));
+            self.held[usize::from(claim.disk().number())].push(word_at(&self.answer, item::TICKET));
         }
         code
     }
@@ -93,7 +95,7 @@ impl Making {
         word_at(&self.board, part_at(usize::from(d)) + at)
     }
 
-    /// A claim as people make them: half of them readings.
+    /// A claim as people make them: half of all claims are readings.
     pub fn any_claim(&mut self, d: u8) -> Claim {
         let (disk, now) = (disk(d), self.now);
         let used = 40_000 + 100 * i32::from(d) + self.chance.below(400) as i32;

@@ -4,7 +4,8 @@ use crate::chance::Chance;
 use crate::equal::Both;
 use crate::making::Call;
 use stopblocker::layout::{
-    part, part_at, put_word, slot, word_at, BOARD_BYTES, CLAIMS, PART_BYTES, RECORD_BYTES, SLOT_BYTES,
+    begun, open_bit, part, part_at, put_word, record as at, slot, word_at, ANSWER_BYTES, BOARD_BYTES, CLAIM, CLAIMS,
+    MOST_ERROR, MOST_TICKET, MOST_VALUE, OPEN, PART_BYTES, RECORD_BYTES, RELEASE, SLOT_BYTES,
 };
 
 const DISKS: u8 = 5;
@@ -26,27 +27,27 @@ const EDGES: [u32; 24] = [
     300,
     500,
     3_600,
-    999_999,
-    1_000_000,
-    1_000_000_000,
-    1_000_000_001,
-    2_000_000_000,
-    2_000_000_001,
+    MOST_TICKET,
+    MOST_TICKET + 1,
+    MOST_VALUE,
+    MOST_VALUE + 1,
+    MOST_ERROR,
+    MOST_ERROR + 1,
     0x8000_0000,
-    0xc465_3600, // -1,000,000,000
+    MOST_VALUE.wrapping_neg(),
     0xffff_ffff,
 ];
 
-/// Random calls on five disks, most of them well formed, with limits and values that meet; now and then a word of a part
-/// is changed on both boards before a call, and put back after it where the disk would only be refused from then on.
-/// Gives how often each code came.
+/// Makes random calls on five disks, most of them well formed, with values close to the limits. Now and then it changes a
+/// word of a part on both boards before a call; if that would only cause refusals from then on, it puts the part back.
+/// Returns how often each code came.
 pub fn on_random_calls(calls: u64, seed: u64) -> Result<[u64; 22], String> {
     let mut chance = Chance::new(seed);
     let mut both = Both::new(&vec![0; BOARD_BYTES]);
     let mut now = 0;
     let mut codes = [0; 22];
     for n in 0..calls {
-        // a disk's tickets and figures run out: every so often all begins anew
+        // begin again now and then, before tickets run out and figures reach their ends
         if n % 5_000 == 0 {
             both = Both::new(&vec![0; BOARD_BYTES]);
             now = chance.one(&[0, 1_000, 4_294_960_000]);
@@ -77,7 +78,7 @@ pub fn on_random_calls(calls: u64, seed: u64) -> Result<[u64; 22], String> {
     Ok(codes)
 }
 
-/// A word of a part, mostly of the head or of slots that hold claims.
+/// The offset of a word in a part, mostly in the head or in slots that hold claims.
 fn any_place(chance: &mut Chance) -> usize {
     match chance.below(4) {
         0 => 4 * chance.below(16) as usize,
@@ -89,7 +90,7 @@ fn any_place(chance: &mut Chance) -> usize {
     }
 }
 
-/// A word of the part at a place, and what to make of it.
+/// The offset of a word in the part, and the word to put there.
 fn any_damage(chance: &mut Chance, board: &[u8], part_at: usize) -> (usize, u32) {
     let word = |at: usize| word_at(board, part_at + at);
     let place = any_place(chance);
@@ -100,16 +101,16 @@ fn any_damage(chance: &mut Chance, board: &[u8], part_at: usize) -> (usize, u32)
         3 => word(any_place(chance)),
         4 => word(part::CLOCK).wrapping_add(chance.below(3) as u32).wrapping_sub(1),
         5 => {
-            // as many tickets as there are claims, or one more, or none left
+            // the next ticket: the number of claims, one more, or none left
             let claims = word(part::ACTIVE_COUNT).wrapping_add(word(part::WAITING_COUNT));
-            return (part::NEXT_TICKET, chance.one(&[1, claims, claims.wrapping_add(1), 1_000_000]));
+            return (part::NEXT_TICKET, chance.one(&[1, claims, claims.wrapping_add(1), MOST_TICKET + 1]));
         }
         6 => {
-            // as much promised as the active adds leave, or one more
+            // the most that promised may be beside the active adds, or one more
             let slots = (0..CLAIMS).map(|k| part::ACTIVE + SLOT_BYTES * k);
             let adds = slots.filter(|at| word(at + slot::METHOD) == 1);
             let sum = adds.fold(0, |sum, at| u32::wrapping_add(sum, (word(at + slot::VALUE) as i32).unsigned_abs()));
-            let left = 1_000_000_000u32.wrapping_sub(sum).wrapping_add(chance.below(2) as u32);
+            let left = MOST_VALUE.wrapping_sub(sum).wrapping_add(chance.below(2) as u32);
             return (part::PROMISED, chance.one(&[left, left.wrapping_neg()]));
         }
         _ => chance.one(&EDGES),
@@ -128,31 +129,26 @@ fn any_ticket(chance: &mut Chance, board: &[u8], at: usize) -> u32 {
 }
 
 fn any_call(chance: &mut Chance, board: &[u8], disk: u8, now: u32) -> Call {
-    let at = part_at(disk.into());
-    let open = board[usize::from(disk / 8)] >> (disk % 8) & 1 == 1;
-    let kind = if open {
+    let (byte, mask) = open_bit(disk.into());
+    let kind = if board[byte] & mask != 0 {
         if chance.below(50) == 0 {
-            1
+            OPEN
         } else {
-            chance.one(&[2, 2, 2, 3, 3])
+            chance.one(&[CLAIM, CLAIM, CLAIM, RELEASE, RELEASE])
         }
     } else {
-        chance.one(&[1, 1, 1, 2, 3])
+        chance.one(&[OPEN, OPEN, OPEN, CLAIM, RELEASE])
     };
-    let mut record = [0; RECORD_BYTES];
-    record[..4].copy_from_slice(&[0x52, 0x42, kind, disk]);
-    put_word(
-        &mut record,
-        8,
-        if chance.below(40) == 0 { chance.one(&[0, now.saturating_sub(1), now.saturating_add(5)]) } else { now },
-    );
+    let second =
+        if chance.below(40) == 0 { chance.one(&[0, now.saturating_sub(1), now.saturating_add(5)]) } else { now };
+    let mut record = begun(kind, disk, second);
     match kind {
-        1 => {
-            put_word(&mut record, 16, chance.one(&[10, 100, 1_000, 2_000_000_000]));
-            put_word(&mut record, 20, chance.one(&[10, 100, 1_000, 2_000_000_000]));
+        OPEN => {
+            put_word(&mut record, at::USED_LIMIT, chance.one(&[10, 100, 1_000, MOST_ERROR]));
+            put_word(&mut record, at::PROMISED_LIMIT, chance.one(&[10, 100, 1_000, MOST_ERROR]));
         }
-        2 => claim(chance, &mut record, now),
-        _ => put_word(&mut record, 12, any_ticket(chance, board, at)),
+        CLAIM => claim(chance, &mut record, now),
+        _ => put_word(&mut record, at::TICKET, any_ticket(chance, board, part_at(disk.into()))),
     }
     match chance.below(24) {
         0 => put_word(&mut record, 4 * chance.below(3) as usize + 12, chance.one(&EDGES)),
@@ -161,10 +157,10 @@ fn any_call(chance: &mut Chance, board: &[u8], disk: u8, now: u32) -> Call {
     }
     let mut call = Call::of(record);
     if chance.below(200) == 0 {
-        call.record_bytes = chance.below(25) as usize;
+        call.record_bytes = chance.below(RECORD_BYTES as u64 + 1) as usize;
     }
     if chance.below(200) == 0 {
-        call.answer_bytes = chance.below(145) as usize;
+        call.answer_bytes = chance.below(ANSWER_BYTES as u64 + 1) as usize;
     }
     call
 }
@@ -172,20 +168,20 @@ fn any_call(chance: &mut Chance, board: &[u8], disk: u8, now: u32) -> Call {
 /// The fields of a claim.
 fn claim(chance: &mut Chance, record: &mut [u8; RECORD_BYTES], now: u32) {
     let method = chance.one(&[0, 0, 1, 1, 2, 3, 4, 4, 5, 5, 6]);
-    record[4] = method;
-    record[5] = chance.one(&[0, 4, 4, 5, 5, 255]);
+    record[at::METHOD] = method;
+    record[at::PRIORITY] = chance.one(&[0, 4, 4, 5, 5, 255]);
     if method >= 4 {
-        record[6] = u8::from(chance.below(4) == 0);
-        put_word(record, 20, chance.one(&[0, 5, 100, 500, 5_000, 2_000_000_000]));
+        record[at::FRESH] = u8::from(chance.below(4) == 0);
+        put_word(record, at::STATED_LIMIT, chance.one(&[0, 5, 100, 500, 5_000, MOST_ERROR]));
         return;
     }
     let value = match (method, chance.below(10)) {
         (3, _) => chance.below(256) as i32,
-        (_, 0) => chance.one(&[1_000_000_000, -1_000_000_000, 999_999_999]),
+        (_, 0) => chance.one(&[MOST_VALUE as i32, -(MOST_VALUE as i32), MOST_VALUE as i32 - 1]),
         (1, 1..=4) => chance.one(&[500_000_000, -500_000_000, 499_999_999]),
         _ => chance.below(201) as i32 - 100,
     };
-    put_word(record, 12, now.saturating_sub(chance.one(&[0, 0, 1, 299, 300])));
-    put_word(record, 16, value as u32);
-    put_word(record, 20, if method == 3 { 0 } else { chance.one(&[0, 0, 1, 5, 10]) });
+    put_word(record, at::MEASURED, now.saturating_sub(chance.one(&[0, 0, 1, 299, 300])));
+    put_word(record, at::VALUE, value as u32);
+    put_word(record, at::OWN_ERROR, if method == 3 { 0 } else { chance.one(&[0, 0, 1, 5, 10]) });
 }

@@ -1,4 +1,4 @@
-//! As much of SQLite as the store needs, from the library that is installed: no header and no crate.
+//! The functions of SQLite that the store needs, loaded from the installed library: no header and no crate is needed.
 
 use std::ffi::{c_void, CStr, CString};
 use std::mem::transmute;
@@ -41,7 +41,7 @@ struct Library {
 impl Library {
     fn load() -> Option<Library> {
         let name = |text: &str| CString::new(text).expect("no zero in a name");
-        // SAFETY: both are called as the C library has them; a function that is not there ends the load.
+        // SAFETY: both are declared as in the C library; if a function is missing the load ends.
         unsafe {
             let library = dlopen(name("libsqlite3.so.0").as_ptr(), NOW);
             if library.is_null() {
@@ -109,7 +109,7 @@ impl Drop for Database {
 }
 
 impl Statement {
-    /// Runs it with these numbers, and hands on each row's first N columns.
+    /// Runs it with these numbers, and passes on the first N columns of each row.
     pub fn rows<const N: usize>(&mut self, numbers: &[i64], mut row: impl FnMut([i64; N])) {
         // SAFETY: the statement is prepared on an open database; columns are read while a row is there.
         unsafe {
@@ -130,7 +130,7 @@ impl Statement {
         }
     }
 
-    /// Runs it with these numbers, for what it changes.
+    /// Runs it with these numbers; it returns no rows.
     pub fn run(&mut self, numbers: &[i64]) {
         self.rows(numbers, |[]: [i64; 0]| ());
     }

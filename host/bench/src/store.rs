@@ -1,20 +1,34 @@
 //! The board kept by SQLite in memory: a row for each open disk, a row for each claim. A call is one transaction of
 //! prepared statements: it reads the rows of its disk, decides in code, and writes the rows that have changed. The
-//! decision, the soundness test in it, is the hand-written engine's on the disk that the rows make up, so that the time
-//! is SQLite's and hardly the rules'.
+//! hand-written engine makes the decision and the soundness test, on a part made from the rows, so that nearly all of the
+//! time is SQLite's.
 
 use crate::hand;
 use crate::sqlite::{Database, Statement};
 use stopblocker::layout::{
-    part, part_at, put_word, word_at, ANSWER_BYTES, BOARD_BYTES, CLAIMS, DISKS, PART_BYTES, SLOT_BYTES,
+    figure, open_bit, part, part_at, put_word, record as at, slot, word_at, ANSWER_BYTES, BOARD_BYTES, CLAIMS, DISKS,
+    PART_BYTES, SLOT_BYTES,
 };
 
 /// The words of a part's head that a row has: all but the two counts and the two zeros.
-const HEAD: [usize; 12] = [0, 4, 16, 20, 24, 28, 32, 36, 40, 44, 48, 52];
+const HEAD: [usize; 12] = [
+    part::CLOCK,
+    part::NEXT_TICKET,
+    part::USED + figure::VALUE,
+    part::USED + figure::STAMP,
+    part::USED + figure::AMOUNT,
+    part::USED + figure::LIMIT,
+    part::PROMISED + figure::VALUE,
+    part::PROMISED + figure::STAMP,
+    part::PROMISED + figure::AMOUNT,
+    part::PROMISED + figure::LIMIT,
+    part::STATE + figure::VALUE,
+    part::STATE + figure::STAMP,
+];
 const FIGURES: usize = HEAD.len();
 
 /// The words of a slot that a row has: all but the two zeros.
-const WORDS: usize = 9;
+const WORDS: usize = slot::ZERO / 4;
 
 const DISKS_TABLE: &str = "CREATE TABLE disks (disk INTEGER PRIMARY KEY, clock, next, \
     used, used_stamp, used_amount, used_limit, promised, promised_stamp, promised_amount, promised_limit, state, state_stamp)";
@@ -22,7 +36,7 @@ const CLAIMS_TABLE: &str =
     "CREATE TABLE claims (disk, ticket, granted, method, priority, fresh, measured, value, error, \
     told, amount, PRIMARY KEY (disk, ticket)) WITHOUT ROWID";
 
-/// A claim's row: when it was granted among the active ones of its disk, 0 while it waits; and its words.
+/// The row of a claim: `granted` orders the active claims of a disk by their grants, and is 0 while the claim waits.
 #[derive(Clone, Copy, PartialEq)]
 struct Row {
     granted: i64,
@@ -40,7 +54,7 @@ pub struct Store {
     put_claim: Statement,
     end_claim: Statement,
     clear: [Statement; 2],
-    /// An empty board, on which one call is decided.
+    /// An empty board; a call is decided on it.
     board: Vec<u8>,
     rows: Vec<Row>,
     // the statements are dropped before it
@@ -79,13 +93,13 @@ impl Store {
         self.database.version()
     }
 
-    /// Keeps the open disks of a board, and nothing else.
+    /// Stores the open disks of a board, and forgets all others.
     pub fn load(&mut self, board: &[u8]) {
         self.begin.run(&[]);
         for clear in &mut self.clear {
             clear.run(&[]);
         }
-        for disk in (0..DISKS).filter(|disk| board[disk / 8] >> (disk % 8) & 1 == 1) {
+        for disk in (0..DISKS).filter(|disk| is_open(board, *disk)) {
             let at = part_at(disk);
             self.board[at..at + PART_BYTES].copy_from_slice(&board[at..at + PART_BYTES]);
             self.rows.clear();
@@ -101,7 +115,7 @@ impl Store {
         for disk in 0..DISKS {
             if self.read(disk) {
                 let at = part_at(disk);
-                whole[disk / 8] |= 1 << (disk % 8);
+                set_open(&mut whole, disk);
                 whole[at..at + PART_BYTES].copy_from_slice(&self.board[at..at + PART_BYTES]);
                 self.forget(disk);
             }
@@ -114,7 +128,7 @@ impl Store {
         if answer.len() != ANSWER_BYTES || !hand::names_a_disk(record) {
             return hand::step(&mut self.board, record, answer);
         }
-        let disk = usize::from(record[3]);
+        let disk = usize::from(record[at::DISK]);
         self.begin.run(&[]);
         self.read(disk);
         let code = hand::step(&mut self.board, record, answer);
@@ -126,7 +140,7 @@ impl Store {
         code
     }
 
-    /// Puts a disk's rows on the empty board. Gives whether it is open.
+    /// Writes the rows of a disk to the empty board, and returns whether the disk is open.
     fn read(&mut self, disk: usize) -> bool {
         let board = &mut self.board;
         let at = part_at(disk);
@@ -141,7 +155,7 @@ impl Store {
         if !open {
             return false;
         }
-        board[disk / 8] |= 1 << (disk % 8);
+        set_open(board, disk);
         let rows = &mut self.rows;
         self.read_claims.rows(&[disk as i64], |[granted, words @ ..]: [i64; 1 + WORDS]| {
             rows.push(Row { granted, words: words.map(|word| word as u32) });
@@ -161,7 +175,7 @@ impl Store {
         true
     }
 
-    /// Writes what has changed of a disk: its row, new claims, claims granted or raised, and those that have ended.
+    /// Writes the rows of a disk that have changed: its own, new claims, claims that were granted or raised, and ended ones.
     fn write(&mut self, disk: usize, new: bool) {
         let (board, at, number) = (&self.board, part_at(disk), disk as i64);
         let mut figures = [number; 1 + FIGURES];
@@ -203,7 +217,17 @@ impl Store {
     /// Makes the board empty again.
     fn forget(&mut self, disk: usize) {
         let at = part_at(disk);
-        self.board[disk / 8] = 0;
+        self.board[open_bit(disk).0] = 0;
         self.board[at..at + PART_BYTES].fill(0);
     }
+}
+
+fn is_open(board: &[u8], disk: usize) -> bool {
+    let (byte, mask) = open_bit(disk);
+    board[byte] & mask != 0
+}
+
+fn set_open(board: &mut [u8], disk: usize) {
+    let (byte, mask) = open_bit(disk);
+    board[byte] |= mask;
 }

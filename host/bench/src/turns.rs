@@ -1,4 +1,4 @@
-//! A workload's calls in turn, by one engine; what a turn takes without a call is taken with one that does nothing.
+//! Runs all calls of a workload by one engine. An engine that does nothing shows what the loop itself takes.
 
 use crate::hand;
 use crate::making::Call;
@@ -6,10 +6,10 @@ use std::arch::asm;
 use stopblocker::layout::ANSWER_BYTES;
 use stopblocker::step;
 
-/// Calls in turn. Gives the sum of their codes.
+/// Makes the calls one after the other, and returns the sum of their codes.
 pub type Turns = fn(&mut [u8], &[Call], &mut [u8; ANSWER_BYTES]) -> u64;
 
-/// An engine's calls in turn, in a function of its own: a count of instructions finds it by its name.
+/// The loop over the calls, a function for each engine: the counts of instructions name it.
 macro_rules! turns {
     ($name:ident, $step:path) => {
         #[inline(never)]
@@ -30,7 +30,7 @@ turns!(by_nothing, nothing);
 
 #[inline(never)]
 fn nothing(board: &mut [u8], record: &[u8], answer: &mut [u8]) -> u32 {
-    // SAFETY: no instruction; the three are lent to it, so that the call is not left out.
+    // SAFETY: it has no instruction; it takes the three pointers so that the compiler does not leave out the call.
     unsafe { asm!("/* {0} {1} {2} */", in(reg) board.as_ptr(), in(reg) record.as_ptr(), in(reg) answer.as_ptr()) };
     0
 }

@@ -1,4 +1,4 @@
-//! Bars: a figure as a length, to the right of zero, or to the left where it is negative.
+//! Bars: the length shows the figure, to the right of zero, or to the left if it is negative.
 
 use crate::style::Style;
 
@@ -40,7 +40,7 @@ impl Bars {
         self.full
     }
 
-    /// The bar of a figure, as wide as said, or one less where both sides of zero are to be equal.
+    /// The bar of a figure, as wide as asked for, or one narrower so that both sides of zero are equal.
     pub fn draw(&self, value: i32) -> String {
         let marks = if self.ascii { ASCII } else { BLOCKS };
         if !self.negative {
@@ -52,7 +52,7 @@ impl Bars {
         format!("{}{}{}", marks.to_left(left, side), marks.zero, marks.to_right(right, side))
     }
 
-    /// The nearest length, and the shortest for a figure that is not zero, however small.
+    /// The nearest length, but at least one step for a figure that is not zero.
     fn steps(&self, value: i32, cells: usize, marks: &Marks) -> usize {
         if value == 0 {
             return 0;

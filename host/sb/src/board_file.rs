@@ -1,4 +1,4 @@
-//! A board kept in a file: read whole, written beside and renamed.
+//! A board kept in a file: it is read as a whole, written to a file beside it, and renamed.
 
 use crate::ending::Ending;
 use std::ffi::OsString;
@@ -30,8 +30,8 @@ pub fn read(path: &Path) -> Result<Option<Vec<u8>>, Ending> {
     }
 }
 
-/// A board's file while a run is at work on it: FILE.new stands beside it, so that no other run begins from a board that
-/// this one is about to replace.
+/// A board's file during a run. FILE.new stands beside it as a lock, so that no other run begins with a board that this one
+/// will replace.
 pub struct BoardFile {
     path: PathBuf,
     beside: PathBuf,
@@ -41,7 +41,7 @@ pub struct BoardFile {
 
 impl BoardFile {
     pub fn hold(path: &Path) -> Result<BoardFile, Ending> {
-        // Where FILE is a link, what it leads to is held and replaced.
+        // If FILE is a link, the file that it leads to is locked and replaced.
         let is_link = fs::symlink_metadata(path).map_or(false, |data| data.file_type().is_symlink());
         let end = if is_link { fs::canonicalize(path).ok() } else { None };
         let path = end.unwrap_or_else(|| path.to_path_buf());
@@ -81,7 +81,7 @@ impl BoardFile {
 
 impl Drop for BoardFile {
     fn drop(&mut self) {
-        // Once renamed, what stands beside is another run's.
+        // After the rename a FILE.new belongs to another run.
         if !self.renamed {
             let _ = fs::remove_file(&self.beside);
         }

@@ -68,8 +68,8 @@ fn claims(text: &mut String, style: &Style, which: &str, count: u32, claims: Vec
     }
 }
 
-/// Told and amount are an active reading's, the second of measuring and the value a write's; where another claim has
-/// one that is not zero it is shown all the same.
+/// Only an active reading has told and amount, only a write has a second of measuring and a value. If another claim has one
+/// of them that is not zero, it is shown too.
 fn cells(claim: &ClaimView, active: bool) -> Vec<String> {
     let is_reading = claim.method.map_or(false, Method::is_reading);
     let shown = |applies: bool, number: i64, text: String| if applies || number != 0 { text } else { "-".to_string() };
@@ -87,7 +87,7 @@ fn cells(claim: &ClaimView, active: bool) -> Vec<String> {
     ]
 }
 
-/// Columns stand close together where there is no room for more.
+/// Columns have one space between them if two do not fit.
 fn put(text: &mut String, table: &Table, style: &Style) {
     const INDENT: usize = 2;
     let gap = if INDENT + table.width(2) <= style.width { 2 } else { 1 };

@@ -20,7 +20,7 @@ impl Ending {
         Ending::Input(vec![fault])
     }
 
-    /// The same, with the file's name before each fault: for a file that is read beside the input.
+    /// The same, with the file's name before each fault, for a file that is read in addition to the input.
     pub fn of_file(self, name: &OsStr) -> Ending {
         match self {
             Ending::Input(faults) => {
@@ -31,7 +31,7 @@ impl Ending {
     }
 }
 
-/// Writes to standard output and sees that it went.
+/// Writes to standard output, and returns an error if that fails.
 pub fn print(bytes: &[u8]) -> Result<(), Ending> {
     let mut out = io::stdout().lock();
     out.write_all(bytes).and_then(|()| out.flush()).map_err(|error| match error.kind() {
@@ -40,7 +40,7 @@ pub fn print(bytes: &[u8]) -> Result<(), Ending> {
     })
 }
 
-/// Writes a line to standard error; where that is closed there is nobody to tell.
+/// Writes a line to standard error, and ignores that it may be closed.
 pub fn complain(line: &str) {
     let _ = writeln!(io::stderr(), "{line}");
 }

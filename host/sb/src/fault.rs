@@ -2,7 +2,7 @@
 
 #[derive(Clone, PartialEq, Eq, Debug)]
 pub struct Fault {
-    /// The wrong word; none where the line ends too early.
+    /// The wrong word; none if the line ends too early.
     pub word: Option<String>,
     pub expected: String,
 }

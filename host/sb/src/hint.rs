@@ -2,13 +2,10 @@
 
 use crate::number::grouped;
 use crate::record::{Claim, Record};
+use stopblocker::layout::{MOST_ERROR, MOST_STATE, MOST_VALUE};
 use stopblocker::{Method, Refusal};
 
-const VALUE_MOST: u32 = 1_000_000_000;
-const LIMIT_MOST: u32 = 2_000_000_000;
-const STATE_MOST: i32 = 255;
-
-/// A hint, closer where the record is known.
+/// A hint; it says more if the record is known.
 pub fn of(refusal: Refusal, asked: Option<&Result<Record, String>>) -> String {
     match (refusal, asked) {
         (Refusal::Record, Some(Err(why))) => why.clone(),
@@ -18,7 +15,7 @@ pub fn of(refusal: Refusal, asked: Option<&Result<Record, String>>) -> String {
     }
 }
 
-/// Why a write's own error exceeds its attribute's limit, which an open has set, but for the state's.
+/// Why a write's own error exceeds its attribute's limit. The open has set the limits, except the state's, which is 0.
 fn of_own_error(claim: &Claim) -> String {
     let own = grouped(claim.error.into());
     match claim.known_method() {
@@ -33,12 +30,12 @@ fn above_limit(own: &str, attribute: &str) -> String {
     format!("the own error {own} is above the limit that the open gave {attribute}; {todo}")
 }
 
-/// Every field of a record that refusal 17 looks at and finds out of range.
+/// Every field of a record that is out of range, which refusal 17 is for.
 pub fn out_of_range(record: &Record) -> Vec<String> {
     match record {
         Record::Open { used_limit, promised_limit, .. } => [("used", *used_limit), ("promised", *promised_limit)]
             .into_iter()
-            .filter(|(_, limit)| *limit > LIMIT_MOST)
+            .filter(|(_, limit)| *limit > MOST_ERROR)
             .map(|(attribute, limit)| above(&format!("the limit of {attribute}"), limit))
             .collect(),
         Record::Claim(claim) => match claim.known_method() {
@@ -58,7 +55,7 @@ fn of_reading(claim: &Claim) -> Vec<String> {
     if claim.measured != 0 {
         faults.push(format!("a reading has second of measuring 0, not {}", claim.measured));
     }
-    if claim.error > LIMIT_MOST {
+    if claim.error > MOST_ERROR {
         faults.push(above("the stated limit", claim.error));
     }
     faults
@@ -67,13 +64,13 @@ fn of_reading(claim: &Claim) -> Vec<String> {
 fn of_write(claim: &Claim, method: Method) -> Vec<String> {
     let mut faults = Vec::new();
     if method == Method::SetState {
-        if !(0..=STATE_MOST).contains(&claim.value) {
-            faults.push(format!("a state is 0 to {STATE_MOST}, not {}", grouped(claim.value.into())));
+        if !(0..=MOST_STATE as i32).contains(&claim.value) {
+            faults.push(format!("a state is 0 to {MOST_STATE}, not {}", grouped(claim.value.into())));
         }
-    } else if claim.value.unsigned_abs() > VALUE_MOST {
-        faults.push(format!("the value {} is not within ±{}", grouped(claim.value.into()), grouped(VALUE_MOST.into())));
+    } else if claim.value.unsigned_abs() > MOST_VALUE {
+        faults.push(format!("the value {} is not within ±{}", grouped(claim.value.into()), grouped(MOST_VALUE.into())));
     }
-    if claim.error > LIMIT_MOST {
+    if claim.error > MOST_ERROR {
         faults.push(above("the own error", claim.error));
     }
     if claim.fresh {
@@ -86,7 +83,7 @@ fn of_write(claim: &Claim, method: Method) -> Vec<String> {
 }
 
 fn above(what: &str, number: u32) -> String {
-    format!("{what} {} is above {}", grouped(number.into()), grouped(LIMIT_MOST.into()))
+    format!("{what} {} is above {}", grouped(number.into()), grouped(MOST_ERROR.into()))
 }
 
 #[cfg(test)]
@@ -95,10 +92,10 @@ mod tests {
     use stopblocker::layout::{ANSWER_BYTES, BOARD_BYTES};
     use stopblocker::step;
 
-    /// On an empty disk, on all edges: a field is named exactly where the desk refuses 17.
+    /// On an opened disk, at all edges: a field is named exactly if the desk refuses 17.
     #[test]
     fn refusal_17_and_no_other() {
-        let open = Record::Open { disk: 3, now: 7, used_limit: LIMIT_MOST, promised_limit: LIMIT_MOST };
+        let open = Record::Open { disk: 3, now: 7, used_limit: MOST_ERROR, promised_limit: MOST_ERROR };
         let answer = |board: &mut [u8], record: &Record| step(board, &record.bytes(), &mut [0; ANSWER_BYTES]);
         let (mut named, mut tried) = (0, 0);
         let mut agrees = |board: &[u8], record: Record| {
@@ -108,7 +105,7 @@ mod tests {
             tried += 1;
         };
 
-        let words = [0, 1, LIMIT_MOST, LIMIT_MOST + 1, u32::MAX];
+        let words = [0, 1, MOST_ERROR, MOST_ERROR + 1, u32::MAX];
         for used_limit in words {
             for promised_limit in words {
                 agrees(&[0; BOARD_BYTES], Record::Open { disk: 3, now: 7, used_limit, promised_limit });
@@ -116,7 +113,7 @@ mod tests {
         }
         let mut board = [0; BOARD_BYTES];
         assert_eq!(answer(&mut board, &open), 3);
-        let most = VALUE_MOST as i32;
+        let most = MOST_VALUE as i32;
         for value in [0, -1, 1, 255, 256, most, most + 1, -most, -most - 1, i32::MAX, i32::MIN] {
             for error in words {
                 for (measured, fresh) in [(0, false), (7, false), (8, false), (0, true), (u32::MAX, true)] {

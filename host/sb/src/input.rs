@@ -5,7 +5,7 @@ use std::ffi::OsStr;
 use std::fs::File;
 use std::io::{self, BufRead, BufReader, Read};
 
-/// What reads a file, or standard input where none is named or it is `-`.
+/// A reader of the file, or of standard input if no file is named or it is `-`.
 pub fn reader(file: Option<&OsStr>) -> Result<Box<dyn BufRead>, Ending> {
     match file {
         Some(name) if name != "-" => match File::open(name) {
@@ -25,7 +25,7 @@ pub fn all(file: Option<&OsStr>) -> Result<Vec<u8>, Ending> {
     }
 }
 
-/// What to say where reading fails.
+/// The error if reading fails.
 pub fn cannot_read(file: Option<&OsStr>, error: &io::Error) -> Ending {
     let name = file.filter(|name| *name != "-").map(|name| name.to_string_lossy());
     Ending::input(format!("cannot read {}: {error}", name.as_deref().unwrap_or("standard input")))

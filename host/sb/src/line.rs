@@ -15,7 +15,7 @@ pub struct Line {
 }
 
 impl Line {
-    /// The line of these words; none where there are none.
+    /// The line of a text; none if the text has no words.
     pub fn of(text: &str) -> Result<Option<Line>, Fault> {
         let mut words = text.split_whitespace();
         let first = match words.next() {
@@ -50,7 +50,7 @@ fn code_of(word: Option<&str>, of_pass: bool) -> Result<u32, Fault> {
     }
 }
 
-/// Waits and released carry only the ticket, opened and a refusal nothing.
+/// Codes waits and released have only a ticket; opened and a refusal have nothing.
 fn carries(item: &Item) -> Result<(), Fault> {
     let fault = |word: String, expected: &str| Err(Fault { word: Some(word), expected: expected.to_string() });
     if item.code >= 3 && item.ticket != 0 {
@@ -68,7 +68,7 @@ fn carries(item: &Item) -> Result<(), Fault> {
     Ok(())
 }
 
-/// A number as the program prints it: no sign but a minus, no separators.
+/// A number as the program prints it: a minus or no sign, no separators.
 fn plain(word: Option<&str>, least: i64, most: i64, expected: &str) -> Result<i64, Fault> {
     word.filter(|word| !word.contains(&['+', '_', ','][..]))
         .and_then(number::read)

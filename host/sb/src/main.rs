@@ -71,7 +71,7 @@ fn run(command: &Command, words: &[OsString]) -> Result<(), Ending> {
 fn exit_code(command: Option<&str>, ended: Result<(), Ending>) -> ExitCode {
     let who = command.map_or("sb".to_string(), |name| format!("sb {name}"));
     match ended {
-        // Whoever read the output has seen enough.
+        // Nobody reads the output any more, for example `head` has ended: no error.
         Ok(()) | Err(Ending::Closed) => ExitCode::SUCCESS,
         Err(Ending::Input(faults)) => {
             for fault in faults {

@@ -2,7 +2,7 @@
 
 /// The number that a word says.
 ///
-/// A comma stands before three digits and no other number of them, so that 1,5 is never taken for 15.
+/// A comma must stand before exactly three digits, so that 1,5 is never read as 15.
 pub fn read(word: &str) -> Option<i64> {
     let (negative, digits) = match word.strip_prefix('-') {
         Some(digits) => (true, digits),
@@ -17,7 +17,7 @@ pub fn is_meant(word: &str) -> bool {
     word.trim_start_matches(&['-', '+'][..]).starts_with(|c: char| c.is_ascii_digit())
 }
 
-/// With a comma before each three digits.
+/// The number with a comma before every three digits.
 pub fn grouped(number: i64) -> String {
     let digits = number.unsigned_abs().to_string();
     let mut text = if number < 0 { "-".to_string() } else { String::new() };

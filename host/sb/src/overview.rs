@@ -1,4 +1,4 @@
-//! The open disks of a board, each a line.
+//! The open disks of a board, a line each.
 
 use crate::bar::Bars;
 use crate::disk_page::NOT_SOUND;
@@ -32,7 +32,7 @@ const WITHOUT_BARS: [Column; 9] = [
     numbers("waiting"),
 ];
 const GAP: usize = 1;
-/// Where there is no room for bars of this many characters there are none.
+/// If there is no room for bars of this many characters, no bars are drawn.
 const LEAST_BAR: usize = 8;
 
 /// Draws the open disks; `is_sound` says which of them the desk finds sound.

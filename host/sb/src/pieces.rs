@@ -1,4 +1,4 @@
-//! What is sent to the desk: text or records, told apart by themselves, as pieces of 24 bytes.
+//! What is sent to the desk, as pieces of 24 bytes. The input may be text or records; its bytes tell which.
 
 use crate::ending::Ending;
 use crate::read_text::record_of;
@@ -8,7 +8,7 @@ use stopblocker::layout::{MARK, RECORD_BYTES};
 /// One request as it is sent.
 pub struct Piece {
     pub bytes: Vec<u8>,
-    /// The record, or why it is none.
+    /// The record, or why the bytes are not one.
     pub record: Result<Record, String>,
 }
 

@@ -1,7 +1,7 @@
-//! A line of text to a record.
+//! Turns a line of text into a record.
 //!
-//! A line is `open DISK`, `claim DISK METHOD` or `release DISK`, and behind it fields in any order: a word and its
-//! number. The value of a write needs no word.
+//! A line is `open DISK`, `claim DISK METHOD` or `release DISK`, followed by fields in any order. A field is a word and a
+//! number; the value of a write needs no word.
 
 use crate::fault::Fault;
 use crate::number;
@@ -31,7 +31,7 @@ const OF_WRITE: &[Field] = &[VALUE, OWN, MEASURED, AT, PRIORITY, FRESH];
 const OF_READING: &[Field] = &[LIMIT, AT, PRIORITY, FRESH, VALUE, MEASURED];
 const OF_RELEASE: &[Field] = &[TICKET, AT];
 
-/// The record of a line; none where it is empty or a comment.
+/// The record of a line; none if the line is empty or a comment.
 pub fn record_of(line: &str) -> Result<Option<Record>, Fault> {
     let mut words = line.split('#').next().unwrap_or("").split_whitespace();
     let kind = match words.next() {
@@ -72,7 +72,7 @@ fn claim<'a>(words: &mut impl Iterator<Item = &'a str>) -> Result<Claim, Fault> 
     let disk = disk(words)?;
     let method = method(words)?;
     let known = Method::of(u32::from(method));
-    // A method that is none is written as a write is.
+    // A claim on an unknown method is written like a write.
     let is_write = !known.map_or(false, Method::is_reading);
     let given = Given::read(words, if is_write { OF_WRITE } else { OF_READING }, is_write)?;
     let now = given.need(AT, "at SECOND")? as u32;

@@ -1,7 +1,9 @@
-//! A well-formed record, whatever it asks: a disk above 63, a method above 6 or a field out of range is for the desk to
-//! refuse. So it is wider than the crate's requests, which cannot ask all of that.
+//! A well-formed record, whatever it asks. It may have a disk above 63, a method above 6 or a field out of range, which the
+//! desk refuses; the crate's requests cannot ask for that.
 
-use stopblocker::layout::{begun, put_signed, put_word, record as at, signed_at, word_at, MARK, RECORD_BYTES};
+use std::ops::Range;
+use stopblocker::layout::{begun, put_signed, put_word, record as at, signed_at, word_at};
+use stopblocker::layout::{CLAIM, MARK, OPEN, RECORD_BYTES, RELEASE};
 use stopblocker::Method;
 
 #[derive(Clone, Copy, PartialEq, Eq, Debug)]
@@ -25,31 +27,33 @@ pub struct Claim {
 }
 
 impl Claim {
-    /// The method that its number names, if it is one.
+    /// The method of its number; none if the number is unknown.
     pub fn known_method(&self) -> Option<Method> {
         Method::of(u32::from(self.method))
     }
 }
 
 impl Record {
-    /// The record of these bytes, or why they are none: what refusal 10 looks at.
+    /// The record of these bytes, or why the desk would refuse them 10.
     pub fn of(bytes: &[u8]) -> Result<Record, String> {
         if bytes.len() != RECORD_BYTES {
             return Err(format!("{} bytes, expected {RECORD_BYTES}", bytes.len()));
         }
         if bytes[..2] != MARK {
-            return Err(format!("begins with {:02x} {:02x}, expected the mark 52 42", bytes[0], bytes[1]));
+            let [first, second] = MARK;
+            let begins = format!("begins with {:02x} {:02x}", bytes[0], bytes[1]);
+            return Err(format!("{begins}, expected the mark {first:02x} {second:02x}"));
         }
         let (disk, now) = (bytes[at::DISK], word_at(bytes, at::NOW));
         match bytes[at::KIND] {
-            1 => unused(bytes, &[4, 5, 6, 7, 12, 13, 14, 15]).map(|()| Record::Open {
+            OPEN => unused(bytes, &[at::METHOD..at::NOW, at::MEASURED..at::VALUE]).map(|()| Record::Open {
                 disk,
                 now,
                 used_limit: word_at(bytes, at::USED_LIMIT),
                 promised_limit: word_at(bytes, at::PROMISED_LIMIT),
             }),
-            2 if bytes[at::FRESH] > 1 => Err(format!("fresh flag {}, expected 0 or 1", bytes[at::FRESH])),
-            2 => unused(bytes, &[7]).map(|()| {
+            CLAIM if bytes[at::FRESH] > 1 => Err(format!("fresh flag {}, expected 0 or 1", bytes[at::FRESH])),
+            CLAIM => unused(bytes, &[at::ZERO..at::NOW]).map(|()| {
                 Record::Claim(Claim {
                     disk,
                     now,
@@ -61,12 +65,12 @@ impl Record {
                     error: word_at(bytes, at::OWN_ERROR),
                 })
             }),
-            3 => unused(bytes, &[4, 5, 6, 7, 16, 17, 18, 19, 20, 21, 22, 23]).map(|()| Record::Release {
+            RELEASE => unused(bytes, &[at::METHOD..at::NOW, at::VALUE..RECORD_BYTES]).map(|()| Record::Release {
                 disk,
                 now,
                 ticket: word_at(bytes, at::TICKET),
             }),
-            kind => Err(format!("kind {kind}, expected 1 (open), 2 (claim) or 3 (release)")),
+            kind => Err(format!("kind {kind}, expected {OPEN} (open), {CLAIM} (claim) or {RELEASE} (release)")),
         }
     }
 
@@ -80,13 +84,13 @@ impl Record {
     pub fn bytes(&self) -> [u8; RECORD_BYTES] {
         match *self {
             Record::Open { disk, now, used_limit, promised_limit } => {
-                let mut bytes = begun(1, disk, now);
+                let mut bytes = begun(OPEN, disk, now);
                 put_word(&mut bytes, at::USED_LIMIT, used_limit);
                 put_word(&mut bytes, at::PROMISED_LIMIT, promised_limit);
                 bytes
             }
             Record::Claim(claim) => {
-                let mut bytes = begun(2, claim.disk, claim.now);
+                let mut bytes = begun(CLAIM, claim.disk, claim.now);
                 bytes[at::METHOD] = claim.method;
                 bytes[at::PRIORITY] = claim.priority;
                 bytes[at::FRESH] = u8::from(claim.fresh);
@@ -96,7 +100,7 @@ impl Record {
                 bytes
             }
             Record::Release { disk, now, ticket } => {
-                let mut bytes = begun(3, disk, now);
+                let mut bytes = begun(RELEASE, disk, now);
                 put_word(&mut bytes, at::TICKET, ticket);
                 bytes
             }
@@ -104,9 +108,10 @@ impl Record {
     }
 }
 
-fn unused(bytes: &[u8], places: &[usize]) -> Result<(), String> {
-    match places.iter().find(|&&place| bytes[place] != 0) {
-        Some(&place) => Err(format!("byte {place} is {}, expected 0", bytes[place])),
+/// The bytes that a kind of record does not use are zero.
+fn unused(bytes: &[u8], ranges: &[Range<usize>]) -> Result<(), String> {
+    match ranges.iter().cloned().flatten().find(|&at| bytes[at] != 0) {
+        Some(at) => Err(format!("byte {at} is {}, expected 0", bytes[at])),
         None => Ok(()),
     }
 }
@@ -117,8 +122,8 @@ mod tests {
     use stopblocker::layout::{ANSWER_BYTES, BOARD_BYTES};
     use stopblocker::step;
 
-    /// Every byte of three records in turn takes every value: it is a record exactly where the desk does not refuse 10,
-    /// and then it gives back its bytes.
+    /// Every byte of three records takes every value: it is a record exactly if the desk does not refuse 10, and then it
+    /// gives back its bytes.
     #[test]
     fn refusal_10_and_no_other() {
         let claim = Claim { disk: 3, now: 9, method: 2, priority: 5, fresh: true, measured: 8, value: -7, error: 6 };
@@ -139,7 +144,7 @@ mod tests {
                 }
             }
         }
-        // The mark; the kind, where an open and a release make claims too; the unused bytes; the claim's flag.
+        // The mark; the kind (an open and a release with kind 2 are claims); the unused bytes; the claim's flag.
         assert_eq!(refused, 3 * 2 * 255 + (254 + 255 + 254) + (8 + 1 + 12) * 255 + 254);
         assert_eq!(Record::of(&open.bytes()[..23]), Err("23 bytes, expected 24".to_string()));
         assert!(Record::of(&[&open.bytes()[..], &[0]].concat()).is_err() && Record::of(&[]).is_err());

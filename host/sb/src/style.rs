@@ -4,7 +4,7 @@ use std::env;
 use std::fs::File;
 use std::process::{Command, Stdio};
 
-/// How wide a drawing is where nothing says it.
+/// How wide a drawing is if neither COLUMNS nor a terminal says it.
 const WIDTH: usize = 100;
 
 #[derive(Clone, Copy, PartialEq, Eq, Debug)]

@@ -1,10 +1,11 @@
-//! An answer in words, closer where the requests are known.
+//! An answer in words; it says more if the requests are known.
 
 use crate::hint;
 use crate::line::Line;
 use crate::number::grouped;
 use crate::record::Record;
 use std::collections::HashMap;
+use stopblocker::layout::{GRANTED, OPENED, RELEASED, WAITS};
 use stopblocker::{Board, ClaimView, Disk, Item, Method, Refusal};
 
 /// What a ticket is for.
@@ -15,14 +16,14 @@ struct Known {
     active: bool,
 }
 
-/// Says answers in their order, and remembers what each ticket is for.
+/// Says answers in words, one after the other, and remembers what each ticket is for.
 #[derive(Default)]
 pub struct Teller {
     claims: HashMap<(u8, u32), Known>,
 }
 
 impl Teller {
-    /// One that knows the claims that stand on a board.
+    /// A teller that knows the claims on a board.
     pub fn of(board: &Board) -> Teller {
         let mut teller = Teller::default();
         for disk in Disk::all() {
@@ -34,25 +35,25 @@ impl Teller {
         teller
     }
 
-    /// The answer that a line carries, given what was asked if that is known.
+    /// The answer of a line in words; `asked` is the request if it is known.
     pub fn tell(&mut self, line: &Line, asked: Option<&Result<Record, String>>) -> String {
         let Line { of_pass, record, disk, item } = *line;
         if let Some(Ok(Record::Claim(claim))) = asked {
-            if let (Some(method), 0 | 1, false) = (claim.known_method(), item.code, of_pass) {
+            if let (Some(method), GRANTED | WAITS, false) = (claim.known_method(), item.code, of_pass) {
                 self.claims.insert((disk, item.ticket), Known { method, value: claim.value, active: false });
             }
         }
         // The program shows disk 0 for a record that it cannot read.
         let who = match item.code {
-            10 => format!("record {record}"),
+            number if number == Refusal::Record.number() => format!("record {record}"),
             _ if of_pass => format!("  + record {record}"),
             _ => format!("record {record}, disk {disk}"),
         };
         let what = match item.code {
-            0 => self.granted(disk, of_pass, &item),
-            1 => format!("ticket {} waits, tried again at each release", item.ticket),
-            2 => format!("released ticket {}{}", item.ticket, self.after_release(disk, item.ticket)),
-            3 => format!("opened{}", limits(asked)),
+            GRANTED => self.granted(disk, of_pass, &item),
+            WAITS => format!("ticket {} waits, tried again at each release", item.ticket),
+            RELEASED => format!("released ticket {}{}", item.ticket, self.after_release(disk, item.ticket)),
+            OPENED => format!("opened{}", limits(asked)),
             number => refused(number, asked),
         };
         format!("{who}: {what}\n")

@@ -1,4 +1,4 @@
-//! A record to a line of text that reads back as the same record.
+//! Turns a record into a line of text, from which the same record can be read back.
 
 use crate::record::{Claim, Record};
 use std::fmt::Write;
@@ -18,7 +18,7 @@ fn claim_line(claim: &Claim) -> String {
     let mut line = match claim.known_method() {
         Some(known) if known.is_reading() => {
             let mut line = format!("claim {disk} {known:?} limit {error}");
-            // A desk refuses both of a reading, but a record can hold them.
+            // The desk refuses a reading with these, but a record can have them.
             put(&mut line, "value", i64::from(value));
             put(&mut line, "measured", i64::from(measured));
             line
@@ -34,7 +34,7 @@ fn claim_line(claim: &Claim) -> String {
     line
 }
 
-/// Adds a field that is 0 unless said.
+/// Adds a field, unless it is 0, its default.
 fn put(line: &mut String, word: &str, number: i64) {
     if number != 0 {
         write!(line, " {word} {number}").expect("a string takes it");

@@ -1,6 +1,6 @@
 //! What an accepted call answers.
 
-use crate::layout::{signed_at, word_at, ANSWER_BYTES, ITEMS, ITEM_BYTES};
+use crate::layout::{item, signed_at, word_at, ANSWER_BYTES, GRANTED, ITEMS, ITEM_BYTES, OPENED, RELEASED, WAITS};
 use crate::Refusal;
 
 /// A claim is granted, in its own call or in the pass of a release.
@@ -8,16 +8,16 @@ use crate::Refusal;
 pub struct Granted {
     /// The ticket to release it with.
     pub ticket: u32,
-    /// The sum of the values that a reading reads; 0 of a write.
+    /// The sum of the values that a reading reads; 0 for a write.
     pub told: i32,
-    /// A reading's own amount of error; of a write, its attribute's amount after the grant.
+    /// For a reading its own amount of error; for a write its attribute's amount after the grant.
     pub amount: u32,
 }
 
 /// A claim waits; it is tried again at each release on its disk.
 #[derive(Clone, Copy, PartialEq, Eq, Hash, Debug)]
 pub struct Waits {
-    /// The ticket that a later pass may grant, and to withdraw it with.
+    /// The ticket that a later pass may grant. Releasing it withdraws the claim.
     pub ticket: u32,
 }
 
@@ -34,7 +34,7 @@ pub struct Released {
 #[derive(Clone, Copy, PartialEq, Eq, Hash, Debug)]
 pub struct Opened;
 
-/// What a claim comes to.
+/// The answer to an accepted claim.
 #[derive(Clone, Copy, PartialEq, Eq, Hash, Debug)]
 pub enum Claimed {
     /// It is granted.
@@ -69,7 +69,7 @@ impl Claimed {
     }
 }
 
-/// What any request comes to.
+/// The answer to any accepted request.
 #[derive(Clone, PartialEq, Eq, Hash, Debug)]
 pub enum Answer {
     /// Code 0.
@@ -99,12 +99,12 @@ impl Item {
     /// The nine items of an answer buffer: the call's own, then the grants of its pass; unused ones are zero.
     pub fn all(answer: &[u8; ANSWER_BYTES]) -> [Item; ITEMS] {
         let mut items = [Item::default(); ITEMS];
-        for (item, bytes) in items.iter_mut().zip(answer.chunks_exact(ITEM_BYTES)) {
-            *item = Item {
-                code: word_at(bytes, 0),
-                ticket: word_at(bytes, 4),
-                told: signed_at(bytes, 8),
-                amount: word_at(bytes, 12),
+        for (filled, bytes) in items.iter_mut().zip(answer.chunks_exact(ITEM_BYTES)) {
+            *filled = Item {
+                code: word_at(bytes, item::CODE),
+                ticket: word_at(bytes, item::TICKET),
+                told: signed_at(bytes, item::TOLD),
+                amount: word_at(bytes, item::AMOUNT),
             };
         }
         items
@@ -120,13 +120,13 @@ impl Answer {
     pub(crate) fn of(answer: &[u8; ANSWER_BYTES]) -> Result<Answer, Refusal> {
         let [own, pass @ ..] = Item::all(answer);
         Ok(match own.code {
-            0 => Answer::Granted(own.granted()),
-            1 => Answer::Waits(Waits { ticket: own.ticket }),
-            2 => Answer::Released(Released {
+            GRANTED => Answer::Granted(own.granted()),
+            WAITS => Answer::Waits(Waits { ticket: own.ticket }),
+            RELEASED => Answer::Released(Released {
                 ticket: own.ticket,
                 grants: pass.iter().take_while(|item| item.ticket != 0).map(|item| item.granted()).collect(),
             }),
-            3 => Answer::Opened(Opened),
+            OPENED => Answer::Opened(Opened),
             number => return Err(Refusal::of(number).expect("every call ends with a code 0 to 3 or a refusal")),
         })
     }

@@ -1,6 +1,6 @@
 //! The board, and the calls on it.
 
-use crate::layout::{part_at, ANSWER_BYTES, BOARD_BYTES, OPEN_BYTES, PART_BYTES};
+use crate::layout::{open_bit, part_at, ANSWER_BYTES, BOARD_BYTES, OPEN_BYTES, PART_BYTES};
 use crate::{step, Answer, Claim, Claimed, Disk, DiskView, Open, Opened, Refusal, Release, Released, Request};
 use std::error::Error;
 use std::fmt;
@@ -24,10 +24,10 @@ pub struct Board {
     bytes: Box<[u8]>,
 }
 
-/// Bytes that are no board, since a board has 49,216.
+/// The error for bytes that are not a board: a board has 49,216.
 #[derive(Clone, Copy, PartialEq, Eq, Debug)]
 pub struct WrongLength {
-    /// How many they are.
+    /// How many bytes there were.
     pub length: usize,
 }
 
@@ -93,8 +93,8 @@ impl Board {
 
     /// Whether a disk is open.
     pub fn is_open(&self, disk: Disk) -> bool {
-        let d = usize::from(disk.number());
-        self.bytes[d / 8] >> (d % 8) & 1 == 1
+        let (byte, mask) = open_bit(usize::from(disk.number()));
+        self.bytes[byte] & mask != 0
     }
 
     /// The number of open disks.
@@ -102,7 +102,7 @@ impl Board {
         self.bytes[..OPEN_BYTES].iter().map(|byte| byte.count_ones()).sum()
     }
 
-    /// An open disk as it stands on the board; none of a closed one.
+    /// An open disk as it stands on the board; none if the disk is closed.
     pub fn disk(&self, disk: Disk) -> Option<DiskView<'_>> {
         let at = part_at(usize::from(disk.number()));
         self.is_open(disk).then(|| DiskView::of(&self.bytes[at..at + PART_BYTES]))

@@ -1,6 +1,6 @@
 //! A claim, and its record.
 
-use crate::layout::{begun, put_signed, put_word, record, RECORD_BYTES};
+use crate::layout::{begun, put_signed, put_word, record, CLAIM, RECORD_BYTES};
 use crate::{Disk, Method};
 
 /// A claim on a method of one disk, held until released.
@@ -99,7 +99,7 @@ impl Claim {
 
     /// Its record.
     pub fn record(&self) -> [u8; RECORD_BYTES] {
-        let mut bytes = begun(2, self.disk.number(), self.now);
+        let mut bytes = begun(CLAIM, self.disk.number(), self.now);
         bytes[record::METHOD] = self.method.number();
         bytes[record::PRIORITY] = self.priority;
         bytes[record::FRESH] = u8::from(self.fresh);

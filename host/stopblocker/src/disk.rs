@@ -15,7 +15,7 @@ use std::fmt;
 pub struct Disk(u8);
 
 impl Disk {
-    /// The disk of a number, if a board has it.
+    /// The disk with this number; none if it is above 63.
     pub const fn new(number: u8) -> Option<Disk> {
         if (number as usize) < DISKS {
             Some(Disk(number))
@@ -78,7 +78,7 @@ impl Method {
         self as u8
     }
 
-    /// The method of a number, if it is one.
+    /// The method with this number; none if it is above 6.
     pub fn of(number: u32) -> Option<Method> {
         Method::ALL.get(usize::try_from(number).ok()?).copied()
     }

@@ -2,8 +2,8 @@
 //!
 //! A [`Board`] holds up to 64 disks, each with three attributes: used, promised and state. A [`Claim`] is on one method
 //! of one disk and is held until its [`Release`]; a write shows in the figures at its release, a reading states how
-//! much error it can bear. The desk grants, lets wait or refuses, and it is proved: the call that this crate makes is
-//! the exported `step` of the repository's `desk`.
+//! much error it can bear. The desk grants, lets wait or refuses, and it is proved: this crate calls the `step` that the
+//! repository's crate `kit` exports.
 //!
 //! ```
 //! use stopblocker::{Board, Claim, Disk, Open, Release};
@@ -21,7 +21,7 @@
 //! let reading = board.claim(claim)?.granted().expect("nobody writes, and the figures are fresh");
 //! assert_eq!((reading.told, reading.amount), (40_000, 20));
 //!
-//! // A worker promises 980, all that the planner can still bear: granted. One more MiB has to wait.
+//! // A worker promises 980, all that the planner can still bear: granted. A second worker's 1 MiB has to wait.
 //! board.claim(Claim::add_promised(disk, 103, 980, 0).priority(5))?;
 //! let claim = Claim::add_promised(disk, 104, 1, 0).priority(5);
 //! let second = board.claim(claim)?.waits().expect("the planner's figure stands");
@@ -57,7 +57,7 @@ pub use refusal::Refusal;
 pub use request::{Open, Release, Request};
 pub use view::{ClaimView, DiskView, Figure, State};
 
-/// The example of the page is run with the others.
+/// The example of docs/HOST.md is run as a test.
 #[cfg(doctest)]
 #[doc = include_str!("../../../docs/HOST.md")]
 struct HostPage;

@@ -71,7 +71,7 @@ impl Refusal {
         self as u32
     }
 
-    /// The refusal of a number, if it is one.
+    /// The refusal with this number; none if there is no such refusal.
     pub fn of(number: u32) -> Option<Refusal> {
         Refusal::ALL.into_iter().find(|r| r.number() == number)
     }

@@ -1,12 +1,12 @@
 //! Open, release and any request, and their records.
 
-use crate::layout::{begun, put_word, record, RECORD_BYTES};
+use crate::layout::{begun, put_word, record, OPEN, RECORD_BYTES, RELEASE};
 use crate::{Claim, Disk};
 
 /// Opens a disk: values and amounts 0, stamps and clock = now, next ticket 1, no claims.
 ///
-/// Its limits are of errors, not of the disk's size, and stand as long as the board does: a second open is refused 12, and
-/// nothing closes a disk.
+/// Its limits are the most error that used and promised may carry, not the disk's capacity. They cannot be changed on this
+/// board: a second open is refused 12, and nothing closes a disk.
 #[derive(Clone, Copy, PartialEq, Eq, Hash, Debug)]
 pub struct Open {
     disk: Disk,
@@ -16,7 +16,7 @@ pub struct Open {
 }
 
 impl Open {
-    /// An open at second `now`, with the limits of the errors of used and promised, 0 to 2,000,000,000 each.
+    /// An open at second `now`, with the limits of used and promised, 0 to 2,000,000,000 each.
     pub const fn new(disk: Disk, now: u32, used_limit: u32, promised_limit: u32) -> Open {
         Open { disk, now, used_limit, promised_limit }
     }
@@ -28,7 +28,7 @@ impl Open {
 
     /// Its record.
     pub fn record(&self) -> [u8; RECORD_BYTES] {
-        let mut bytes = begun(1, self.disk.number(), self.now);
+        let mut bytes = begun(OPEN, self.disk.number(), self.now);
         put_word(&mut bytes, record::USED_LIMIT, self.used_limit);
         put_word(&mut bytes, record::PROMISED_LIMIT, self.promised_limit);
         bytes
@@ -57,7 +57,7 @@ impl Release {
 
     /// Its record.
     pub fn record(&self) -> [u8; RECORD_BYTES] {
-        let mut bytes = begun(3, self.disk.number(), self.now);
+        let mut bytes = begun(RELEASE, self.disk.number(), self.now);
         put_word(&mut bytes, record::TICKET, self.ticket);
         bytes
     }

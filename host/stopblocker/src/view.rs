@@ -1,13 +1,13 @@
-//! A disk as it stands on the board, for people's tools: read only, through docs/LAYOUT.md.
+//! A disk as it stands on the board, read only, for tools that show it to people.
 
-use crate::layout::{part, signed_at, slot, word_at, CLAIMS, SLOT_BYTES};
+use crate::layout::{figure, part, signed_at, slot, word_at, CLAIMS, SLOT_BYTES};
 use crate::Method;
 use std::fmt;
 
 /// An open disk of a board.
 ///
-/// Where only calls have written the board this is the disk. Of other bytes it is what they say, sound or not; whether
-/// they are sound is for the desk to say, by refusal 14.
+/// If only calls have written the board, this is the disk. Otherwise it shows what the bytes say, sound or not; the desk
+/// refuses 14 if they aren't sound.
 ///
 /// ```
 /// use stopblocker::{Board, Claim, Disk, Method, Open};
@@ -57,21 +57,21 @@ pub struct State {
 pub struct ClaimView {
     /// Ticket.
     pub ticket: u32,
-    /// Method; none where the part isn't sound and has a number above 6.
+    /// Method; none if its number is above 6, which no sound part has.
     pub method: Option<Method>,
     /// Priority, 0 to 255 where the part is sound.
     pub priority: u32,
     /// Whether it asks for fresh figures.
     pub fresh: bool,
-    /// Second of measuring; 0 of a reading.
+    /// Second of measuring; 0 for a reading.
     pub measured: u32,
-    /// Value of a set, amount of an add; 0 of a reading.
+    /// Value of a set, amount of an add; 0 for a reading.
     pub value: i32,
     /// Own error of a write, stated limit of a reading.
     pub error: u32,
-    /// What an active reading was told; else 0.
+    /// What an active reading was told; 0 for any other claim.
     pub told: i32,
-    /// An active reading's present amount; else 0.
+    /// The present amount of an active reading; 0 for any other claim.
     pub amount: u32,
 }
 
@@ -102,7 +102,10 @@ impl<'a> DiskView<'a> {
 
     /// State.
     pub fn state(&self) -> State {
-        State { code: signed_at(self.part, part::STATE), stamp: word_at(self.part, part::STATE + 4) }
+        State {
+            code: signed_at(self.part, part::STATE + figure::VALUE),
+            stamp: word_at(self.part, part::STATE + figure::STAMP),
+        }
     }
 
     /// The active claims, in the order of their grants.
@@ -117,14 +120,14 @@ impl<'a> DiskView<'a> {
 
     fn figure(&self, at: usize) -> Figure {
         Figure {
-            value: signed_at(self.part, at),
-            stamp: word_at(self.part, at + 4),
-            amount: word_at(self.part, at + 8),
-            limit: word_at(self.part, at + 12),
+            value: signed_at(self.part, at + figure::VALUE),
+            stamp: word_at(self.part, at + figure::STAMP),
+            amount: word_at(self.part, at + figure::AMOUNT),
+            limit: word_at(self.part, at + figure::LIMIT),
         }
     }
 
-    // A count above 8 is no count: there are eight slots.
+    // A part has eight slots, whatever its count says.
     fn claims(&self, count: usize, at: usize) -> impl Iterator<Item = ClaimView> + 'a {
         let slots = &self.part[at..at + CLAIMS * SLOT_BYTES];
         let count = word_at(self.part, count).min(CLAIMS as u32);
@@ -141,7 +144,7 @@ impl ClaimView {
             fresh: word_at(bytes, slot::FRESH) != 0,
             measured: word_at(bytes, slot::MEASURED),
             value: signed_at(bytes, slot::VALUE),
-            error: word_at(bytes, slot::ERROR),
+            error: word_at(bytes, slot::OWN_ERROR),
             told: signed_at(bytes, slot::TOLD),
             amount: word_at(bytes, slot::AMOUNT),
         }

@@ -1,4 +1,5 @@
-//! What the C header and docs/HOST.md say of each refusal is what the crate says, and the advice for 14 helps.
+//! What the C header and docs/HOST.md say of each refusal is what the crate says, and the advice for 14 helps. Both name what
+//! the archive asks of a C library.
 
 mod common;
 use common::*;
@@ -6,6 +7,7 @@ use stopblocker::Refusal;
 
 const HEADER: &str = include_str!("../../include/stopblocker.h");
 const PAGE: &str = include_str!("../../../docs/HOST.md");
+const BUILD: &str = include_str!("../../build");
 
 /// The texts that a function of the header returns, case by case; one may be written in several pieces.
 fn returned(function: &str) -> Vec<String> {
@@ -30,6 +32,17 @@ fn the_page() {
         let row = PAGE.lines().find(|line| line.starts_with(&begins)).expect("the page has a row for each");
         let whom = row[begins.len()..].strip_suffix(&format!(" | {} |", refusal.what_to_do())).expect(row);
         assert!(["", " (not for open)", " (claim)"].contains(&whom), "{row}");
+    }
+}
+
+/// host/build holds the archive to its list; header and page say the same list.
+#[test]
+fn what_the_archive_asks_for() {
+    let list = BUILD.lines().find_map(|line| line.strip_prefix("asked='")?.strip_suffix('\'')).expect("a list");
+    let words = |text: &str| text.replace(['`', '*'], " ").split_whitespace().collect::<Vec<_>>().join(" ");
+    let sentence = format!("it asks the C library for {} and nothing else", list.replace(' ', ", "));
+    for text in [HEADER, PAGE] {
+        assert!(words(text).to_lowercase().contains(&sentence.to_lowercase()), "{sentence}");
     }
 }
 

@@ -6,10 +6,11 @@ use crate::edges::{Aim, At};
 use crate::odd::{BILLION, LAST_SECOND};
 use second::record::Fields;
 use second::{entry, Action, Claim, Disk, Entry, Method};
+use stopblocker::layout::{PROMISED_VALID, STATE_VALID, USED_VALID};
 
-const VALIDITY: [i64; 3] = [300, 300, 3_600];
+const VALIDITY: [i64; 3] = [USED_VALID as i64, PROMISED_VALID as i64, STATE_VALID as i64];
 
-/// Changes a plain claim so that it stands on an edge or one past it; None where the disk doesn't allow it.
+/// Changes a plain claim so that it is exactly on an edge or one past it; None if this disk has no such edge.
 pub fn aimed(chance: &mut Chance, disk: &Disk, asked: &mut Fields) -> Option<Aim> {
     let at = match method_of(asked).action() {
         _ if chance.one_in(8) => chance.one_of(&[At::Clock, At::LastMethod, At::Flag]),
@@ -79,7 +80,7 @@ fn aim_field(at: At, past: bool, disk: &Disk, asked: &mut Fields) -> bool {
     true
 }
 
-/// Of a write: the value, limit and amount of what it writes.
+/// Value, limit and amount of the attribute that a write writes.
 fn written(disk: &Disk, asked: &Fields) -> (i64, i64, i64) {
     match method_of(asked).action() {
         Action::Set(k) | Action::Add(k) => {
@@ -90,7 +91,7 @@ fn written(disk: &Disk, asked: &Fields) -> (i64, i64, i64) {
     }
 }
 
-/// The edges of preconditions and lock step. A number that is worked out here only aims: the two desks decide.
+/// The edges of preconditions and lock step. The numbers worked out here only aim the claim; the two desks decide on it.
 fn aim_decision(chance: &mut Chance, at: At, past: bool, disk: &Disk, asked: &mut Fields) -> bool {
     let one = i64::from(past);
     let method = method_of(asked);
@@ -136,13 +137,13 @@ fn aim_decision(chance: &mut Chance, at: At, past: bool, disk: &Disk, asked: &mu
     }
 }
 
-/// The own error or stated limit, if it is one.
+/// Sets the own error or stated limit; false if it is out of range.
 fn state_limit(asked: &mut Fields, limit: i64) -> bool {
     asked.error_or_limit = limit.clamp(0, 2 * BILLION) as u32;
     (0..=2 * BILLION).contains(&limit)
 }
 
-/// The active claims whose entry with a method is this one.
+/// The active claims that have this entry with a method.
 fn beside(disk: &Disk, method: Method, letter: Entry) -> impl Iterator<Item = &Claim> {
     disk.active.iter().filter(move |active| entry(active.method, method) == letter)
 }

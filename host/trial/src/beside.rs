@@ -1,4 +1,4 @@
-//! The desk beside the second program: every event is done to both, and all that can be seen of a call is compared.
+//! The desk beside the second program: both get every event, and everything that a call shows is compared.
 
 use crate::chance::Chance;
 use crate::counts::Counts;
@@ -6,13 +6,14 @@ use crate::event::{Call, Event, Why};
 use second::watch::Watch;
 use second::{encode, sound, Desk, Outcome, ANSWER, BOARD, DISKS, HEAD, PART};
 use std::ops::Range;
+use stopblocker::layout::part;
 
 /// The desk that is on trial.
 pub trait Step {
     fn step(&mut self, board: &mut [u8], record: &[u8], answer: &mut [u8]) -> u32;
 }
 
-/// The proved one.
+/// The proved desk.
 pub struct Proved;
 
 impl Step for Proved {
@@ -21,22 +22,22 @@ impl Step for Proved {
     }
 }
 
-/// Bytes behind the board and behind the answer buffer, to lend more than is right, and to see that they stay.
+/// Extra bytes behind the board and behind the answer buffer: to lend too many bytes, and to see that no call changes them.
 const BEHIND: usize = 16;
 
 pub struct Beside<S> {
     desk: S,
     /// The board that is lent to the desk.
     board: Vec<u8>,
-    /// The board as it has to be by the second program.
+    /// The board as the second program says it must be.
     expected: Vec<u8>,
     pub second: Desk,
     watch: Watch,
-    /// Parts that were damaged while the watch was on; they may come back.
+    /// What stood in parts that were damaged while the watch was on: the trial may put it back.
     kept: Vec<Option<Box<[u8; PART]>>>,
     answer: [u8; ANSWER + BEHIND],
     pub counts: Counts,
-    /// After so many calls the whole board is compared.
+    /// The whole board is compared each time that this many calls were made.
     whole_every: u64,
 }
 
@@ -59,7 +60,7 @@ impl<S: Step> Beside<S> {
         }
     }
 
-    /// The empty board again; the counts go on.
+    /// Begins again with the empty board; the counts go on.
     pub fn clear(&mut self) {
         self.board.fill(0);
         self.expected.fill(0);
@@ -97,14 +98,14 @@ impl<S: Step> Beside<S> {
             self.compare_whole(disk)?;
         }
         match (disk, &outcome) {
-            // A refusal has changed nothing, and what was seen before stands; only a reading may have been refused unduly.
+            // A refusal changes nothing, so there is nothing new to watch, except that a reading may have been refused wrongly.
             (Some(_), Outcome::Refused(_)) if !call.reads() => Ok(()),
             (Some(disk), _) => self.watch.check(&self.second, disk, &outcome, record),
             (None, _) => Ok(()),
         }
     }
 
-    /// All of the 144 bytes are the second program's, or none is written; what is behind them stays.
+    /// The 144 bytes are those of the second program, or unchanged after 9; the bytes behind them are unchanged.
     fn compare_answer(&self, outcome: &Outcome, filled: u8) -> Result<(), String> {
         let expected = outcome.answer().unwrap_or([filled; ANSWER]);
         if self.answer[..ANSWER] == expected && self.answer[ANSWER..] == [filled; BEHIND] {
@@ -116,7 +117,7 @@ impl<S: Step> Beside<S> {
         Err(format!("answer, byte {at} ({item}): expected {}, found {}", right(at), self.answer[at]))
     }
 
-    /// The part of the call's disk and the head, the open bits among it.
+    /// Compares the part of the call's disk, and the head with the open bits.
     fn compare_board(&mut self, disk: Option<usize>, outcome: &Outcome) -> Result<(), String> {
         if let (Some(disk), Outcome::Accepted(_)) = (disk, outcome) {
             let after = self.second.disk(disk).ok_or("accepted, yet not open and sound")?;
@@ -131,7 +132,7 @@ impl<S: Step> Beside<S> {
         Err(self.first_difference(disk))
     }
 
-    /// Every byte of the board, and that an accepted call's part is sound and the second program's disk.
+    /// Compares every byte of the board, and checks that the part after an accepted call is sound and is the second program's disk.
     pub fn compare_whole(&mut self, disk: Option<usize>) -> Result<(), String> {
         self.counts.whole += 1;
         if self.board != self.expected {
@@ -161,7 +162,7 @@ impl<S: Step> Beside<S> {
         format!("board, byte {at} ({place}): expected {expected}, found {found}{named}")
     }
 
-    /// A part from outside. The watch goes on over a damage that is taken back, and over nothing else.
+    /// Writes a part from outside. The watch of its disk goes on if this only repairs a damage, and else begins anew.
     fn put(&mut self, disk: usize, why: Why, part: &[u8; PART]) {
         let before: [u8; PART] = self.expected[part_of(disk)].try_into().expect("768 bytes");
         let was_sound = self.second.disk(disk).is_some();
@@ -181,9 +182,9 @@ impl<S: Step> Beside<S> {
         }
     }
 
-    /// Moves the value of used from outside without a word to the watch, which has to see it.
+    /// Changes the value of used from outside without telling the watch, which must detect it.
     pub fn move_used(&mut self, disk: usize, value: i32) {
-        let at = part_of(disk).start + 16;
+        let at = part_of(disk).start + part::USED;
         for board in [&mut self.board, &mut self.expected] {
             board[at..at + 4].copy_from_slice(&value.to_le_bytes());
         }

@@ -1,4 +1,4 @@
-//! Numbers by chance: the same seed gives the same numbers on every machine.
+//! Random numbers: the same seed gives the same numbers on every machine.
 
 /// SplitMix64.
 #[derive(Clone, Debug)]
@@ -24,13 +24,13 @@ impl Chance {
         ((u128::from(self.word()) * u128::from(n)) >> 64) as u64
     }
 
-    /// From the first to the last, both among them.
+    /// A number from the first to the last, both included.
     #[inline]
     pub fn between(&mut self, first: i64, last: i64) -> i64 {
         first + self.below((last - first + 1) as u64) as i64
     }
 
-    /// One time in n.
+    /// True one time in n.
     #[inline]
     pub fn one_in(&mut self, n: u64) -> bool {
         self.below(n) == 0

@@ -1,15 +1,15 @@
-//! Claims by chance that keep a disk busy: in range, and of a size that fits the disk's limits. Every third is then aimed
-//! at an edge.
+//! Random claims that keep a disk busy: in range, and small enough for the disk's limits. Every third is then aimed at an
+//! edge.
 
 use crate::aims::aimed;
 use crate::chance::Chance;
 use crate::edges::{Aim, At};
 use crate::event::Call;
-use crate::odd::{BILLION, LAST_SECOND};
+use crate::odd::{self, BILLION, LAST_SECOND};
 use second::record::{self, Fields};
 use second::{Action, Disk, Method};
 
-/// A second from the disk's clock on.
+/// A second at or after the disk's clock.
 pub fn now(chance: &mut Chance, disk: &Disk) -> i64 {
     let later = match chance.below(64) {
         0 => chance.one_of(&[60, 299, 300, 301, 3_599, 3_600, 3_601]),
@@ -25,8 +25,8 @@ pub fn claim(chance: &mut Chance, number: u8, disk: &Disk, methods: &[u8]) -> Ca
     let mut asked = plain(chance, disk, method);
     asked.disk = number;
     let mut aim = if chance.one_in(3) { aimed(chance, disk, &mut asked) } else { None };
-    if disk.next_ticket >= 999_999 {
-        aim = Some(Aim { at: At::LastTicket, past: disk.next_ticket > 999_999 });
+    if disk.next_ticket >= odd::LAST_TICKET {
+        aim = Some(Aim { at: At::LastTicket, past: disk.next_ticket > odd::LAST_TICKET });
     }
     Call::new(&record::claim(&asked)).aimed(aim)
 }
@@ -63,7 +63,7 @@ fn plain(chance: &mut Chance, disk: &Disk, method: u8) -> Fields {
     asked
 }
 
-/// A stated limit about as large as what the reading has to bear.
+/// A stated limit close to the error that the reading will have.
 fn stated(chance: &mut Chance, disk: &Disk, method: Method) -> u32 {
     let size = disk.attributes[0].limit.max(disk.attributes[1].limit).max(20);
     match chance.below(8) {

@@ -1,4 +1,4 @@
-//! What was tried, counted.
+//! Counts of what was tried.
 
 use crate::damage::DAMAGES;
 use crate::edges::{Tried, EDGES};
@@ -7,7 +7,7 @@ use second::watch::Watch;
 use second::{sound, Disk, Outcome, ANSWER, BOARD, PART, RECORD};
 use std::collections::BTreeMap;
 
-/// Seconds so near to 2^32 that a stamp and its validity go over it.
+/// From this second on a stamp and its validity may add up to more than 2^32.
 const NEAR_LAST: u32 = u32::MAX - 3_600;
 
 #[derive(Clone, Debug, Default)]
@@ -32,7 +32,7 @@ pub struct Counts {
     closed: u64,
     tickets_put: u64,
     edges: Vec<Tried>,
-    /// Damages: unsound by them, and still sound.
+    /// Damages after which the part was unsound, and those after which it was still sound.
     damages: Vec<(u64, u64)>,
     /// The clause of "Sound" that failed first.
     clauses: BTreeMap<&'static str, u64>,
@@ -139,7 +139,7 @@ impl Counts {
         all
     }
 
-    /// Prints all; the names of what was not seen at all.
+    /// Prints all counts; returns the names of those that are zero.
     pub fn print(&self) -> Vec<String> {
         let mut missing = print_named(self.named());
         println!("clauses of \"Sound\" that failed first:");
@@ -168,7 +168,7 @@ impl Counts {
     }
 }
 
-/// Prints each count with its name; the names of those that are zero.
+/// Prints each count with its name; returns the names of those that are zero.
 pub fn print_named(all: Vec<(String, u64)>) -> Vec<String> {
     all.iter().for_each(|(name, count)| println!("{count:>12}  {name}"));
     all.into_iter().filter(|(_, count)| *count == 0).map(|(name, _)| name).collect()

@@ -1,6 +1,6 @@
 //! The edges at which calls are aimed: on the edge, and one past it.
 
-/// An edge, what a call past it gets, and in words.
+/// An edge, the code of a call that is past it, and the edge in words.
 pub struct Edge {
     pub past: u32,
     pub name: &'static str,
@@ -53,10 +53,10 @@ pub struct Aim {
 /// How often each edge was tried.
 #[derive(Clone, Debug, Default)]
 pub struct Tried {
-    /// On the edge; and of these granted or opened.
+    /// Calls on the edge, and how many of them were granted or opened.
     pub on: u64,
     pub on_accepted: u64,
-    /// Past the edge; and of these with the code that the edge has behind it.
+    /// Calls past the edge, and how many of them got the code that is expected there.
     pub past: u64,
     pub past_turned: u64,
 }

@@ -1,8 +1,9 @@
-//! What is done to the two desks: calls, and bytes put on the board from outside. A list of events from the empty board
-//! is a whole run, and can be run again.
+//! The events that both desks get: calls, and bytes written to the board from outside. A list of events from the empty
+//! board is a whole run, and can be repeated.
 
 use crate::edges::Aim;
 use second::{ANSWER, BOARD, PART, RECORD};
+use stopblocker::layout::{record, CLAIM, DISKS};
 
 /// The longest record that is tried.
 pub const LONGEST: usize = 2 * RECORD;
@@ -38,22 +39,23 @@ impl Call {
         &self.bytes[..usize::from(self.len)]
     }
 
-    /// The record at its right length: a longer one is cut, a shorter one goes on with zeros.
+    /// The record as 24 bytes: a longer one is cut, a shorter one is filled with zeros.
     pub fn whole(&self) -> [u8; RECORD] {
         self.bytes[..RECORD].try_into().expect("24 bytes")
     }
 
     /// Whether it claims a reading.
     pub fn reads(&self) -> bool {
-        self.bytes[2] == 2 && (4..=6).contains(&self.bytes[4])
+        self.bytes[record::KIND] == CLAIM && (4..=6).contains(&self.bytes[record::METHOD])
     }
 
     /// The disk that the record names, if the board has it.
     pub fn disk(&self) -> Option<usize> {
-        (self.len == RECORD as u8 && self.bytes[3] < 64).then_some(usize::from(self.bytes[3]))
+        let disk = usize::from(self.bytes[record::DISK]);
+        (self.len == RECORD as u8 && disk < DISKS).then_some(disk)
     }
 
-    /// Other bytes in a record of the right length; whether they are others.
+    /// Replaces bytes of a record that has the right length; whether that changed anything.
     pub fn change(&mut self, at: usize, bytes: &[u8]) -> bool {
         let place = &mut self.bytes[at..at + bytes.len()];
         let other = self.len == RECORD as u8 && place != bytes;
@@ -65,7 +67,7 @@ impl Call {
 
     /// The record of a call of this kind (1 open, 2 claim, 3 release), to be changed.
     pub fn of_kind(&mut self, kind: u8) -> Option<&mut [u8]> {
-        (self.len == RECORD as u8 && self.bytes[2] == kind).then_some(&mut self.bytes[..RECORD])
+        (self.len == RECORD as u8 && self.bytes[record::KIND] == kind).then_some(&mut self.bytes[..RECORD])
     }
 }
 
@@ -76,7 +78,7 @@ pub enum Why {
     Damaged(usize),
     /// What stood there before the damage.
     Restored,
-    /// Made shorter from one of the others.
+    /// One of the others, made simpler while a failing list is shortened.
     Shorter,
     /// A sound part built at random.
     Odd,
@@ -95,7 +97,7 @@ pub enum Event {
         why: Why,
         part: Box<[u8; PART]>,
     },
-    /// The whole board, written with bytes by chance from a seed; the open bits too, or all disks closed.
+    /// The whole board, filled with random bytes from a seed; the open bits too, unless all disks are closed.
     Garbage {
         seed: u64,
         open: bool,

@@ -1,6 +1,6 @@
-//! Filters, for bash, that make the program's output wrong: the trial of the program has to see each of them.
+//! Filters, for bash, that make the program's output wrong: the trial must detect each of them.
 
-/// Those that alter one line alter the 1,234th, the first with "+" or the last.
+/// A filter that alters one line alters line 1,234, the first line with "+", or the last line.
 pub const FILTERS: &[(&str, &str)] = &[
     ("exit-status", "{ cat; exit 3; }"),
     ("number-altered", "awk 'NR == 1234 { sub(/^[+]?[0-9]+/, \"&0\") } 1'"),

@@ -1,5 +1,6 @@
-//! Any bytes of any length in all three buffers, each flush against a page that may not be touched: behind it in one half
-//! of the runs, before it in the other. Codes and bytes are compared with the second program's here too.
+//! Calls with any bytes of any length in all three buffers. Each buffer lies directly against a page that may not be
+//! touched: before that page in half of the calls, behind it in the others. Codes and bytes are compared with the second
+//! program's here too.
 
 use crate::chance::Chance;
 use crate::guard::Guarded;
@@ -8,6 +9,7 @@ use second::record::{self, Fields};
 use second::{encode, Desk, Outcome, ANSWER, BOARD, HEAD, PART, RECORD};
 use std::os::raw::{c_int, c_void};
 use std::sync::atomic::{AtomicU64, Ordering};
+use stopblocker::layout::{part, SLOT_BYTES};
 
 /// The exported call as a C program sees it.
 pub type Raw = unsafe extern "C" fn(*mut u8, usize, *const u8, usize, *mut u8, usize) -> u32;
@@ -22,10 +24,10 @@ extern "C" {
 const SIGBUS: c_int = 7;
 const SIGSEGV: c_int = 11;
 
-/// The run at hand, for the message of a run that touched a guard page.
+/// The number of this run, for the message if it touches a guard page.
 static RUN: AtomicU64 = AtomicU64::new(0);
 
-/// Only calls that a signal handler may make.
+/// Makes only calls that are allowed in a signal handler.
 extern "C" fn touched(_: c_int) {
     let mut text = *b"fuzz: a byte outside of the buffers was read or written in run 00000000000000000000\n";
     let (mut at, mut run) = (text.len() - 2, RUN.load(Ordering::Relaxed));
@@ -41,7 +43,7 @@ extern "C" fn touched(_: c_int) {
     }
 }
 
-/// One of the two halves: its three buffers, at the end of their rooms or at the start, and what they have to hold.
+/// The buffers for half of the runs: all three lie at the end of their rooms, or all at the start; and what the board must hold.
 struct Half {
     at_end: bool,
     board: Guarded,
@@ -60,7 +62,7 @@ impl Half {
         Half { at_end, board, record: Guarded::new(LONGEST_RECORD), answer: Guarded::new(LONGEST_ANSWER), expected }
     }
 
-    /// One run; the code, or what is wrong.
+    /// Makes one run; returns the code, or what is wrong.
     fn run(&mut self, chance: &mut Chance, second: &mut Desk, desk: Raw) -> Result<u32, String> {
         let board_len = length(chance, BOARD, BOARD + PART);
         let answer_len = length(chance, ANSWER, LONGEST_ANSWER);
@@ -90,11 +92,11 @@ impl Half {
             self.expected[at + disk / 8] |= 1 << (disk % 8);
         }
 
-        // A C program may lend nothing at all by no pointer.
+        // A C program may lend a record of no bytes with a null pointer.
         let none = record.is_empty() && chance.one_in(2);
         let lent = if none { std::ptr::null() } else { self.record.pointer(record_at) as *const u8 };
         let (board, answer) = (self.board.pointer(at), self.answer.pointer(answer_at));
-        // SAFETY: the three are there for their lengths and lie apart; that the call keeps within them is on trial.
+        // SAFETY: the three buffers are valid for their lengths and do not overlap; whether the call stays within them is what is tested.
         let code = unsafe { desk(board, board_len, lent, record.len(), answer, answer_len) };
 
         let checks = [
@@ -113,7 +115,7 @@ impl Half {
     }
 }
 
-/// Mostly the right length, else one beside it or any.
+/// Mostly the right length, else one more or less, or any.
 fn length(chance: &mut Chance, right: usize, most: usize) -> usize {
     match chance.below(16) {
         0 => chance.one_of(&[0, 1, right - 1, right + 1, most]),
@@ -122,7 +124,7 @@ fn length(chance: &mut Chance, right: usize, most: usize) -> usize {
     }
 }
 
-/// A disk, mostly one of the first.
+/// A disk, mostly one of the first four.
 fn some_disk(chance: &mut Chance) -> usize {
     let most = chance.one_of(&[4, 4, 4, 64]);
     chance.below(most) as usize
@@ -147,7 +149,7 @@ fn change_board(chance: &mut Chance, board: &mut [u8]) {
     }
 }
 
-/// Any bytes; a record by its mark and kind; or a request that the board's clock and tickets fit.
+/// Random bytes; random bytes with a right mark and kind; or a request with a second and a ticket from the board.
 fn some_record(chance: &mut Chance, board: &[u8], board_len: usize) -> Vec<u8> {
     let mut bytes = vec![0; if chance.one_in(8) { chance.below(LONGEST_RECORD as u64 + 1) as usize } else { RECORD }];
     chance.fill(&mut bytes);
@@ -160,7 +162,8 @@ fn some_record(chance: &mut Chance, board: &[u8], board_len: usize) -> Vec<u8> {
         BOARD => u32::from_le_bytes(board[at..at + 4].try_into().expect("four bytes")),
         _ => 0,
     };
-    let slot = chance.one_of(&[64, 64 + 44, 64 + 44 * 7, 416, 416 + 44]);
+    let (active, waiting) = (|k| part::ACTIVE + SLOT_BYTES * k, |k| part::WAITING + SLOT_BYTES * k);
+    let slot = chance.one_of(&[active(0), active(1), active(7), waiting(0), waiting(1)]);
     let now = word(at).wrapping_add(chance.one_of(&[0, 0, 1, 300, u32::MAX]));
     let fields = Fields { disk, method: chance.below(8) as u8, now, ..Fields::default() };
     let record = match chance.below(4) {
@@ -179,15 +182,15 @@ fn some_record(chance: &mut Chance, board: &[u8], board_len: usize) -> Vec<u8> {
     bytes
 }
 
-/// A run of so many has to see every code at least once.
+/// A fuzz of this many runs must meet every code at least once.
 pub const SEES_ALL: u64 = 3_000_000;
 
-/// The codes that a call can end with, 0 to 3 and 9 to 21, of which these counts have none.
+/// The codes, of 0 to 3 and 9 to 21, that never came.
 pub fn unseen(codes: &[u64; 22]) -> Vec<usize> {
     (0..=3).chain(9..=21).filter(|&code| codes[code] == 0).collect()
 }
 
-/// So many runs; how often each code came, or what is wrong in which run.
+/// Makes so many runs; returns how often each code came, or which run went wrong and how.
 pub fn fuzz(runs: u64, seed: u64, desk: Raw) -> Result<[u64; 22], String> {
     // SAFETY: the handler makes only calls that are safe there.
     unsafe {

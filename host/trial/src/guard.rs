@@ -1,4 +1,4 @@
-//! Memory with a page before it and one behind it that may be neither read nor written.
+//! Memory between two pages that can be neither read nor written.
 
 use std::os::raw::{c_int, c_long, c_void};
 use std::ptr;
@@ -16,14 +16,14 @@ const PROT_WRITE: c_int = 2;
 const MAP_PRIVATE: c_int = 2;
 const MAP_ANONYMOUS: c_int = 0x20;
 
-/// Room for a buffer, from page to page; it is never given back.
+/// Room for a buffer between the two pages; it is never freed.
 pub struct Guarded {
     start: *mut u8,
     room: usize,
 }
 
 impl Guarded {
-    /// Room for so many bytes at least.
+    /// Room for at least so many bytes.
     pub fn new(bytes: usize) -> Guarded {
         // SAFETY: an anonymous mapping at a place of the system's choice, then protection of pages within it.
         unsafe {
@@ -44,7 +44,7 @@ impl Guarded {
         unsafe { std::slice::from_raw_parts_mut(self.start, self.room) }
     }
 
-    /// Where so many bytes lie in the room: flush against the page behind it, or against the page before it.
+    /// Where a buffer of so many bytes begins in the room: directly before the page behind it, or directly behind the page before it.
     pub fn place(&self, len: usize, at_end: bool) -> usize {
         if at_end {
             self.room - len

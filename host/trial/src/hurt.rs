@@ -1,27 +1,17 @@
-//! A part that is being damaged, beside the sound disk whose part it was; what every damage needs.
+//! A part that is being damaged, with the sound disk that it held; what every damage needs.
 
 use crate::chance::Chance;
 use second::{Claim, Disk, PART};
+use stopblocker::layout::{part, SLOT_BYTES};
 
-/// Places in a slot.
-pub const TICKET: usize = 0;
-pub const METHOD: usize = 4;
-pub const PRIORITY: usize = 8;
-pub const FLAG: usize = 12;
-pub const MEASURED: usize = 16;
-pub const VALUE: usize = 20;
-pub const ERROR: usize = 24;
-pub const TOLD: usize = 28;
-pub const AMOUNT: usize = 32;
-pub const SPARE: [usize; 2] = [36, 40];
-pub const SLOT: usize = 44;
-
+/// Where the slot of an active claim begins in a part.
 pub const fn active(k: usize) -> usize {
-    64 + SLOT * k
+    part::ACTIVE + SLOT_BYTES * k
 }
 
+/// Where the slot of a waiting claim begins in a part.
 pub const fn waiting(k: usize) -> usize {
-    416 + SLOT * k
+    part::WAITING + SLOT_BYTES * k
 }
 
 pub struct Hurt<'a> {
@@ -30,21 +20,21 @@ pub struct Hurt<'a> {
     pub part: &'a mut [u8; PART],
 }
 
-/// Every function that damages says whether it did: false where the disk has nothing to damage so.
+/// Every function that damages returns whether it did: false if this disk has nothing to damage in that way.
 impl<'a> Hurt<'a> {
-    /// Puts a word; words and signed words alike are the number modulo 2^32.
+    /// Puts a word or a signed word: the number modulo 2^32.
     pub fn set(&mut self, at: usize, word: i64) -> bool {
         self.part[at..at + 4].copy_from_slice(&(word as u32).to_le_bytes());
         true
     }
 
-    /// Puts one of the words in one of the places.
+    /// Puts one of the words at one of the offsets.
     pub fn one(&mut self, places: &[usize], words: &[i64]) -> bool {
         let (at, word) = (self.chance.one_of(places), self.chance.one_of(words));
         self.set(at, word)
     }
 
-    /// Changes one bit of the words in one of the places.
+    /// Changes one bit of a word at one of the offsets.
     pub fn flip(&mut self, places: &[usize]) -> bool {
         let at = self.chance.one_of(places) + self.chance.below(4) as usize;
         self.part[at] ^= 1 << self.chance.below(8);
@@ -56,12 +46,12 @@ impl<'a> Hurt<'a> {
         true
     }
 
-    /// A number from the first to before the last.
+    /// A number from the first up to, but not including, the last.
     pub fn between(&mut self, first: usize, last: usize) -> usize {
         first + self.chance.below((last - first) as u64) as usize
     }
 
-    /// The active claims that are meant, with their slots.
+    /// The active claims for which `meant` holds, each with the offset of its slot.
     pub fn active(&self, meant: fn(&Claim) -> bool) -> Vec<(usize, &'a Claim)> {
         let slots = self.disk.active.iter().enumerate().map(|(k, claim)| (active(k), claim));
         slots.filter(|(_, claim)| meant(claim)).collect()
@@ -78,7 +68,7 @@ impl<'a> Hurt<'a> {
         all
     }
 
-    /// Puts one of the words in its place in the slot of one of the claims.
+    /// Puts one of the words at an offset in the slot of one of the claims.
     pub fn on(&mut self, claims: Vec<(usize, &Claim)>, at: usize, words: &[i64]) -> bool {
         self.pick(&claims).map_or(false, |(slot, _)| self.one(&[slot + at], words))
     }

@@ -1,9 +1,9 @@
-//! The desk on trial: the exported `step` beside the second program, the same calls, compared byte for byte.
+//! The trial of the desk: the exported `step` and the second program get the same calls, and are compared byte for byte.
 //!
-//! `trial` makes rounds of `event`s (`traffic`, `claims`, `aims`, `outside`, `odd`, `damage`), `beside` does each to both and
-//! compares, `shrink` makes a failing list short and `words` prints it. `fuzz` lends any bytes between guard pages.
-//! `wrong` and `overrun` have desks that must be seen. `program` sends records to the program,
-//! `lines` says what they come to, `output` compares; `filters` has outputs that must be seen.
+//! `trial` makes rounds of `event`s (`traffic`, `claims`, `aims`, `outside`, `odd`, `damage`), `beside` gives each event to both
+//! and compares, `shrink` shortens a failing list and `words` prints it. `fuzz` lends any bytes between guard pages.
+//! `wrong` and `overrun` have wrong desks that the trial must detect. `program` sends records to the program, `lines` works
+//! out the lines that it must print, `output` compares; `filters` has wrong outputs that the trial must detect.
 
 mod aims;
 pub mod beside;

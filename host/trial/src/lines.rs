@@ -1,10 +1,10 @@
-//! The program's lines by 01's rule, made from what the second program comes to, and what they were, counted.
+//! The lines that the program must print, made by 01's rule from the second program's outcomes; and counts of them.
 
 use crate::counts::print_named;
 use second::{Outcome, RECORD};
 use std::io::Write;
 
-/// The codes that a program can meet: it lends a right board (no 9), and only calls have written it (no 14).
+/// The codes that the program can print: its buffers have the right lengths (no 9), and only calls write its board (no 14).
 const CODES: [usize; 15] = [0, 1, 2, 3, 10, 11, 12, 13, 15, 16, 17, 18, 19, 20, 21];
 
 #[derive(Clone, Debug, Default)]
@@ -16,11 +16,11 @@ pub struct Counts {
     told_below_0: u64,
     short_pieces: u64,
     pub pieces: u64,
-    /// Of these, the ones that end inside a record.
+    /// How many of these end inside a record.
     pub cuts: u64,
 }
 
-/// Writes "number, disk, code, ticket, told, amount" of a record, and a line with "+" for each grant of a pass; how many lines.
+/// Writes the line of a record, and a line with "+" for each grant of its pass; returns how many lines that are.
 pub fn write_lines(lines: &mut Vec<u8>, number: u64, record: &[u8], outcome: &Outcome) -> usize {
     let mut line = |plus: &str, disk: u8, code: u32, ticket: u32, told: i32, amount: u32| {
         writeln!(lines, "{plus}{number} {disk} {code} {ticket} {told} {amount}").expect("a Vec takes all");
@@ -52,7 +52,7 @@ impl Counts {
         }
     }
 
-    /// Prints all; the names of what was not seen at all.
+    /// Prints all counts; returns the names of those that are zero.
     pub fn print(&self) -> Vec<String> {
         let mut all: Vec<(String, u64)> =
             CODES.iter().map(|&code| (format!("code {code}"), self.codes[code])).collect();

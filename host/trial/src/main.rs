@@ -1,7 +1,7 @@
-//! `trial --calls N --seed S`: so many calls to the desk and to the second program, compared.
-//! `trial --fuzz N --seed S`: so many runs on any bytes between guard pages.
-//! `trial --program N --seed S`: so many records through ./stopblocker, its lines compared.
-//! `--wrong NAME`: on a desk or an output that is wrong; the trial has to fail. `--wrong list` names them.
+//! `trial --calls N --seed S`: N calls to the desk and to the second program, compared.
+//! `trial --fuzz N --seed S`: N calls on any bytes between guard pages.
+//! `trial --program N --seed S`: N records through ./stopblocker, its lines compared.
+//! `--wrong NAME`: the same with a wrong desk or a wrong output, which the trial must detect. `--wrong list` names them.
 
 use std::os::raw::c_long;
 use std::process::exit;
@@ -15,7 +15,7 @@ use trial::trial::{Failure, Trial};
 use trial::words;
 use trial::wrong::{WrongDesk, WRONGS};
 
-/// A run of so many calls has to see everything at least once.
+/// In a run of this many calls every count must be above zero.
 const SEES_ALL: u64 = 5_000_000;
 
 extern "C" {
@@ -24,7 +24,7 @@ extern "C" {
 }
 
 fn processor_seconds() -> f64 {
-    // SAFETY: it takes nothing and only answers.
+    // SAFETY: it takes no argument and only returns a number.
     unsafe { clock() as f64 / 1e6 }
 }
 
@@ -76,7 +76,7 @@ fn asked() -> Asked {
     asked
 }
 
-/// The calls; false if anything differs, or was not seen in a long run.
+/// Makes the calls; false if anything differs, or if a count is zero in a long run.
 fn compared<S: Step>(asked: &Asked, desk: &dyn Fn() -> S) -> bool {
     println!("trial: seed {}, {} calls", asked.seed, asked.calls);
     let start = processor_seconds();
@@ -121,7 +121,7 @@ fn fuzzed(asked: &Asked, desk: Raw) -> bool {
     }
 }
 
-/// The records through the program; false if a line differs, or a count was zero in a long run.
+/// Sends the records through the program; false if a line differs, or if a count is zero in a long run.
 fn program_compared(asked: &Asked, filter: Option<&str>) -> bool {
     println!("program: seed {}, {} records", asked.seed, asked.program);
     match program::compare(&|| program::program(filter), asked.program, asked.seed) {

@@ -1,14 +1,16 @@
-//! Odd but sound disks, built at random by 01's "Sound" and by nothing more: most of them no calls could leave.
+//! Odd but sound disks: random disks that meet 01's "Sound" and nothing more. No calls could have left most of them.
 
 use crate::chance::Chance;
 use second::{entry, Action, Attribute, Claim, Disk, Entry, Method};
+use stopblocker::layout::{MOST_TICKET, MOST_VALUE};
 
-pub const BILLION: i64 = 1_000_000_000;
+pub const BILLION: i64 = MOST_VALUE as i64;
 pub const LAST_SECOND: i64 = u32::MAX as i64;
-/// How many claims are active, and how many wait.
+pub const LAST_TICKET: i64 = MOST_TICKET as i64;
+/// How many claims may be active, and how many may wait.
 const COUNTS: &[i64] = &[0, 1, 3, 7, 8, 8];
 
-/// A number from 0 to most, ends preferred.
+/// A number from 0 to most, often 0 or most.
 pub fn up_to(chance: &mut Chance, most: i64) -> i64 {
     match chance.below(8) {
         0 | 1 => 0,
@@ -21,7 +23,7 @@ pub fn up_to(chance: &mut Chance, most: i64) -> i64 {
     }
 }
 
-/// A number within ±most, ends preferred.
+/// A number within ±most, often 0 or ±most.
 pub fn within(chance: &mut Chance, most: i64) -> i64 {
     let size = up_to(chance, most);
     if chance.one_in(2) {
@@ -31,7 +33,7 @@ pub fn within(chance: &mut Chance, most: i64) -> i64 {
     }
 }
 
-/// A second not after the last, near it preferred.
+/// A second not after the last, often near it.
 fn second_to(chance: &mut Chance, last: i64) -> i64 {
     let before = chance.one_of(&[0, 0, 1, 299, 300, 301, 3_599, 3_600, LAST_SECOND]);
     (last - before).max(0)
@@ -42,7 +44,7 @@ pub fn limit(chance: &mut Chance) -> i64 {
     chance.one_of(&[0, 1, 10, 30, 60, 1_000, 1_000, BILLION, 2 * BILLION - 1, 2 * BILLION])
 }
 
-/// A second, both ends of time preferred.
+/// A second, often the first or near the last.
 pub fn clock(chance: &mut Chance) -> i64 {
     match chance.below(8) {
         0 => 0,
@@ -61,7 +63,7 @@ pub fn disk(chance: &mut Chance) -> Disk {
     let state = Attribute { value: up_to(chance, 255), stamp: second_to(chance, clock), amount: 0, limit: 0 };
     let (active, waiting) = (chance.one_of(COUNTS), chance.one_of(COUNTS));
     let least = active + waiting + 1;
-    let next_ticket = chance.one_of(&[least, least + 1, 1_000, 999_998, 999_999, 1_000_000]);
+    let next_ticket = chance.one_of(&[least, least + 1, 1_000, LAST_TICKET - 1, LAST_TICKET, LAST_TICKET + 1]);
     let attributes = [used, promised, state];
     let mut disk = Disk { clock, next_ticket, attributes, active: Vec::new(), waiting: Vec::new() };
     for _ in 0..active {
@@ -97,7 +99,7 @@ fn ticket(chance: &mut Chance, disk: &Disk) -> i64 {
     }
 }
 
-/// A claim that passes 16 to 18, as a waiting one has it.
+/// A claim that passes 16 to 18, as it stands among the waiting ones.
 fn claim(chance: &mut Chance, disk: &Disk, method: Method) -> Claim {
     let mut claim = Claim {
         ticket: ticket(chance, disk),
@@ -124,7 +126,7 @@ fn claim(chance: &mut Chance, disk: &Disk, method: Method) -> Claim {
     claim
 }
 
-/// A claim that may stand among the active ones: no entry N, room for an add, told and amount of a reading.
+/// A claim that may stand among the active ones: no entry N, an add that fits the range, a reading with told and amount.
 fn active_claim(chance: &mut Chance, disk: &Disk) -> Claim {
     let method = loop {
         let method = any_method(chance);

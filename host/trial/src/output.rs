@@ -1,4 +1,4 @@
-//! The program's output, line by line beside the lines that have to be there.
+//! Compares the program's output, line by line, with the lines that it must print.
 
 use crate::words;
 use std::collections::VecDeque;
@@ -7,7 +7,7 @@ use std::sync::mpsc::Receiver;
 
 /// Records of a disk that are printed with a difference.
 const LAST: usize = 16;
-/// Behind the disks that a record can name: a short piece that ends before it.
+/// The number under which short pieces without a disk byte are kept: one more than the disks that a record can name.
 const NO_DISK: usize = 256;
 
 /// A record that is on its way to the program, and how many lines it makes.

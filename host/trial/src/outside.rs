@@ -1,4 +1,4 @@
-//! What else is handed in between the calls of busy disks: parts written from outside, bad records, other lengths.
+//! What comes between the calls of busy disks: parts written from outside, bad records, buffers of other lengths.
 
 use crate::claims;
 use crate::damage::DAMAGES;
@@ -9,7 +9,7 @@ use crate::odd;
 use crate::traffic::Traffic;
 use second::{encode, Desk, Disk, ANSWER, BOARD, PART};
 
-/// A damaged part stays for some calls; then what stood there before comes back.
+/// A damaged part stays for some calls; then it is repaired.
 pub struct Damaged {
     disk: usize,
     before: Disk,
@@ -17,7 +17,7 @@ pub struct Damaged {
 }
 
 impl Traffic {
-    /// Damages the disk as it stands, or, where it has nothing to damage so, an odd one in its place.
+    /// Damages the disk as it stands; if it has nothing to damage in that way, an odd disk in its place.
     pub(crate) fn damage(&mut self, second: &Desk, disk: usize) -> Event {
         let before = match second.disk(disk) {
             Some(figures) => figures.clone(),
@@ -36,7 +36,7 @@ impl Traffic {
         }
     }
 
-    /// Some calls on a damaged part, then what stood there before.
+    /// Makes some calls on a damaged part, then repairs it.
     pub(crate) fn on_damaged(&mut self, mut damaged: Damaged) -> Event {
         if damaged.calls == 0 {
             return Event::put(damaged.disk, Why::Restored, encode(&damaged.before));
@@ -62,7 +62,7 @@ impl Traffic {
             Some(figures) => figures.clone(),
             None => return self.odd(disk),
         };
-        figures.next_ticket = self.chance.between(figures.next_ticket.max(999_997), 1_000_000);
+        figures.next_ticket = self.chance.between(figures.next_ticket.max(odd::LAST_TICKET - 2), odd::LAST_TICKET + 1);
         Event::put(disk, Why::LastTickets, encode(&figures))
     }
 
@@ -77,7 +77,7 @@ impl Traffic {
         Event::put(disk, Why::Closed, part)
     }
 
-    /// A record that was good, with a byte that is wrong in its place, or of another length.
+    /// A good record with a wrong byte, or with another length.
     pub(crate) fn malformed(&mut self, second: &Desk, k: usize) -> Call {
         let call = self.call(second, k);
         let mut record = [0; LONGEST];

@@ -1,4 +1,4 @@
-//! Calls that touch a byte that was not lent to them, or not to be written: the fuzz run has to see each of them.
+//! Calls that read or write a byte that was not lent to them, or write the record: the fuzz run must detect each of them.
 
 use crate::fuzz::{step, Raw};
 

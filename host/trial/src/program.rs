@@ -1,8 +1,9 @@
-//! The program beside the second program: records by chance on its standard input, in pieces of any size, and each line of
-//! its output compared. Every run of the program is one from the empty board.
+//! The program beside the second program: it gets random records on its standard input, in pieces of any size, and each line
+//! of its output is compared. Every run of the program begins with the empty board.
 
 use crate::chance::Chance;
 use crate::lines::{write_lines, Counts};
+use crate::odd;
 use crate::output::{compare_lines, Batch, Sent};
 use crate::traffic::Traffic;
 use second::{Desk, ANSWER, BOARD, RECORD};
@@ -12,14 +13,14 @@ use std::process::{Command, Stdio};
 use std::sync::mpsc::{channel, Sender};
 use std::thread;
 
-/// So many records have to see everything at least once; their first run uses up the tickets of a disk.
+/// In a trial of this many records every count must be above zero; its first run uses up the tickets of a disk.
 pub const SEES_ALL: u64 = 3_000_000;
 /// Records of every other run, at most.
 const RUN: u64 = 16_384;
 /// Records that a run goes on for when the tickets are used up.
 const USED_UP: u64 = 4_096;
 
-/// ./stopblocker, its output through a filter for bash if there is one.
+/// Starts ./stopblocker, with its output through a filter if one is given.
 pub fn program(filter: Option<&str>) -> Command {
     let path = Path::new(env!("CARGO_MANIFEST_DIR")).join("../../stopblocker");
     match filter {
@@ -32,7 +33,7 @@ pub fn program(filter: Option<&str>) -> Command {
     }
 }
 
-/// Runs of the program until so many records are compared; else what differs, in words.
+/// Runs the program until so many records are compared; an error says what differs.
 pub fn compare(program: &dyn Fn() -> Command, records: u64, seed: u64) -> Result<Counts, String> {
     let mut chance = Chance::new(seed);
     let mut counts = Counts::default();
@@ -49,9 +50,9 @@ pub fn compare(program: &dyn Fn() -> Command, records: u64, seed: u64) -> Result
     Ok(counts)
 }
 
-/// The records of one run of the program, as they come.
+/// The records of one run of the program, one after the other.
 struct Run {
-    /// Of the last record, from 1.
+    /// The number of the last record, from 1.
     number: u64,
     length: u64,
     /// The disk whose tickets are used up.
@@ -67,7 +68,7 @@ impl Run {
             return None;
         }
         let tickets_left =
-            |disk: u8| self.second.disk(usize::from(disk)).map_or(true, |disk| disk.next_ticket <= 999_999);
+            |disk: u8| self.second.disk(usize::from(disk)).map_or(true, |disk| disk.next_ticket <= odd::LAST_TICKET);
         if self.worn.map_or(false, |worn| !tickets_left(worn)) && self.length > self.number + USED_UP {
             self.length = self.number + USED_UP;
         }
@@ -81,7 +82,7 @@ impl Run {
         Some(record[..len].to_vec())
     }
 
-    /// The next record, and in the batch what it comes to by the second program.
+    /// The next record; the lines that it must give go to the batch.
     fn add_next(&mut self, chance: &mut Chance, batch: &mut Batch, counts: &mut Counts) -> Option<Vec<u8>> {
         let record = self.next(chance)?;
         let outcome = self.second.step(BOARD, &record, ANSWER);
@@ -112,8 +113,8 @@ fn one_run(mut program: Command, run: Run, chance: &mut Chance, counts: &mut Cou
     }
 }
 
-/// Sends all records in pieces, each behind the lines that it makes. Ends early where the program or the comparison does; what is
-/// wrong then, the comparison says.
+/// Sends all records in pieces; the lines that a piece must give are handed to the comparison before it. Ends early if the
+/// program or the comparison has ended; then the comparison says what is wrong.
 fn send(mut run: Run, chance: &mut Chance, counts: &mut Counts, mut input: impl Write, to: &Sender<Batch>) {
     let mut bytes = Vec::new();
     let mut past = 0;

@@ -1,4 +1,4 @@
-//! A failing list of events made as short as it goes: whatever can be left out, with the list still failing, is left out.
+//! Shortens a failing list of events: it leaves out whatever it can, as long as the list still fails.
 
 use crate::beside::{Beside, Step};
 use crate::event::{Event, Why};
@@ -6,13 +6,13 @@ use crate::simpler::{at_once, simplify, CHANGES};
 use crate::trial::{unpanicked, Failure};
 use second::encode;
 
-/// Pairs are looked for in lists up to here.
+/// Pairs of events are left out only in lists of at most this length.
 const LONGEST_FOR_PAIRS: usize = 24;
-/// A list longer than this is better told by the part as it stands before its last event.
+/// In a list longer than this, the events before the last are replaced by the part as it stands then.
 const LONG: usize = 12;
 
-/// The list up to the event that fails when it is run from the empty board. The whole board is compared at its end, and at
-/// every call of a list that is short already.
+/// Runs a list from the empty board, and returns it up to the event that fails. The whole board is compared at the end, and
+/// in a short list after every call.
 fn failing<S: Step>(desk: &dyn Fn() -> S, events: &[Event]) -> Option<Failure> {
     let whole_every = if events.len() > 2 * LONGEST_FOR_PAIRS { u64::MAX } else { 1 };
     let mut beside = Beside::new(desk(), whole_every);
@@ -24,9 +24,9 @@ fn failing<S: Step>(desk: &dyn Fn() -> S, events: &[Event]) -> Option<Failure> {
     beside.compare_whole(None).err().map(|wrong| Failure { events: events.to_vec(), wrong })
 }
 
-/// The shortest list found that still fails. `desk` makes the desk on trial anew for every try.
+/// The shortest failing list that was found. `desk` makes a new desk for every try.
 pub fn shrink<S: Step>(desk: &dyn Fn() -> S, failure: Failure) -> Failure {
-    // A round compares the whole board now and then; run again, the list may end sooner.
+    // A round compares the whole board only now and then; run again with more comparisons, the list may end sooner.
     let mut best = match failing(desk, &failure.events) {
         Some(best) => best,
         None => return Failure { wrong: format!("{} (not again from the empty board)", failure.wrong), ..failure },
@@ -51,7 +51,7 @@ pub fn shrink<S: Step>(desk: &dyn Fn() -> S, failure: Failure) -> Failure {
     best
 }
 
-/// Leaves out and simplifies single events until nothing more goes.
+/// Leaves out and simplifies single events until nothing more can be left out.
 fn shorten<S: Step>(desk: &dyn Fn() -> S, best: &mut Failure) {
     let mut shorter = true;
     while shorter {
@@ -63,7 +63,7 @@ fn shorten<S: Step>(desk: &dyn Fn() -> S, best: &mut Failure) {
     }
 }
 
-/// In the place of a long way to the last event, the part of its disk as it stands before it.
+/// Replaces the events before the last one by the part of its disk as it stands then.
 fn from_saved_part<S: Step>(desk: &dyn Fn() -> S, best: &mut Failure) {
     let (last, way) = best.events.split_last().expect("a failing list has an event");
     let mut beside = Beside::new(desk(), 1);
@@ -76,7 +76,7 @@ fn from_saved_part<S: Step>(desk: &dyn Fn() -> S, best: &mut Failure) {
     }
 }
 
-/// Takes the list if it fails too.
+/// Keeps the list if it fails too.
 fn keep<S: Step>(desk: &dyn Fn() -> S, best: &mut Failure, events: Vec<Event>) -> bool {
     match failing(desk, &events) {
         Some(failure) if failure.events.len() <= best.events.len() => {
@@ -87,7 +87,7 @@ fn keep<S: Step>(desk: &dyn Fn() -> S, best: &mut Failure, events: Vec<Event>) -
     }
 }
 
-/// Leaves out every piece of so many events that is not needed, from the end on.
+/// Leaves out every group of so many events that is not needed, beginning at the end.
 fn drop_pieces<S: Step>(desk: &dyn Fn() -> S, best: &mut Failure, piece: usize) {
     let mut end = best.events.len();
     while end > 0 {
@@ -96,7 +96,7 @@ fn drop_pieces<S: Step>(desk: &dyn Fn() -> S, best: &mut Failure, piece: usize) 
         let dropped: Vec<Event> = events.drain(start..end).collect();
         let kept = keep(desk, best, events.clone());
         if !kept && piece == 1 {
-            // Without a claim the later tickets of its disk are lower by one.
+            // If a claim is left out, the later tickets of its disk are lower by one.
             lower_tickets(&mut events[start..], dropped[0].disk());
             keep(desk, best, events);
         }
@@ -104,7 +104,7 @@ fn drop_pieces<S: Step>(desk: &dyn Fn() -> S, best: &mut Failure, piece: usize) 
     }
 }
 
-/// Leaves out two events that are needed one for the other: a claim and its release, what bars and what is barred.
+/// Leaves out two events that only need each other: a claim and its release, a barring claim and a barred one.
 fn drop_pairs<S: Step>(desk: &dyn Fn() -> S, best: &mut Failure) {
     let mut first = 0;
     while first < best.events.len() && best.events.len() <= LONGEST_FOR_PAIRS {

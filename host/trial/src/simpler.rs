@@ -2,13 +2,19 @@
 
 use crate::event::{Event, Why};
 use second::PART;
+use stopblocker::layout::{part, record, CLAIM, CLAIMS, SLOT_BYTES};
 
 /// How many changes there are to try on an event.
-pub const CHANGES: usize = RECORD_CHANGES.len() + 16 + PART / 4;
+pub const CHANGES: usize = RECORD_CHANGES.len() + 2 * CLAIMS + PART / 4;
 
-/// Places and bytes of a record: the usual priority, no flag, and 0 for every word but now.
-const RECORD_CHANGES: [(usize, &[u8]); 5] =
-    [(5, &[5]), (6, &[0]), (12, &[0, 0, 0, 0]), (16, &[0, 0, 0, 0]), (20, &[0, 0, 0, 0])];
+/// Offsets in a record, and simpler bytes for them: the usual priority, no flag, and 0 for every word but now.
+const RECORD_CHANGES: [(usize, &[u8]); 5] = [
+    (record::PRIORITY, &[5]),
+    (record::FRESH, &[0]),
+    (record::MEASURED, &[0, 0, 0, 0]),
+    (record::VALUE, &[0, 0, 0, 0]),
+    (record::OWN_ERROR, &[0, 0, 0, 0]),
+];
 
 /// Makes the change with this number.
 pub fn simplify(event: &mut Event, change: usize) -> bool {
@@ -20,8 +26,8 @@ pub fn simplify(event: &mut Event, change: usize) -> bool {
         Event::Put { part, why, .. } if change >= RECORD_CHANGES.len() => {
             *why = if *why == Why::Closed { Why::Closed } else { Why::Shorter };
             match change - RECORD_CHANGES.len() {
-                slot if slot < 16 => leave_out_claim(part, 15 - slot),
-                word => clear_word(part, word - 16),
+                slot if slot < 2 * CLAIMS => leave_out_claim(part, 2 * CLAIMS - 1 - slot),
+                word => clear_word(part, word - 2 * CLAIMS),
             }
         }
         _ => false,
@@ -33,15 +39,15 @@ pub fn at_once(events: &mut [Event]) -> bool {
     let mut changed = false;
     for event in events {
         if let Event::Call(call) = event {
-            changed |= call.change(8, &[0; 4]);
-            let writes = call.of_kind(2).map_or(false, |record| record[4] < 4);
-            changed |= writes && call.change(12, &[0; 4]);
+            changed |= call.change(record::NOW, &[0; 4]);
+            let writes = call.of_kind(CLAIM).map_or(false, |bytes| bytes[record::METHOD] < 4);
+            changed |= writes && call.change(record::MEASURED, &[0; 4]);
         }
     }
     changed
 }
 
-/// Zero for a word that is something else.
+/// Makes a word zero; false if it was.
 fn clear_word(part: &mut [u8; PART], word: usize) -> bool {
     let word = &mut part[4 * word..4 * (word + 1)];
     let had = *word != [0; 4];
@@ -49,16 +55,18 @@ fn clear_word(part: &mut [u8; PART], word: usize) -> bool {
     had
 }
 
-/// Without the claim of a slot, active ones first; those behind it move up.
-fn leave_out_claim(part: &mut [u8; PART], slot: usize) -> bool {
-    let (count_at, start) = if slot < 8 { (8, 64) } else { (12, 416) };
-    let count = usize::from(part[count_at]);
-    if count > 8 || slot % 8 >= count {
+/// Leaves out the claim of a slot, counted over the active and then the waiting ones; the claims behind it move up.
+fn leave_out_claim(bytes: &mut [u8; PART], slot: usize) -> bool {
+    let active = slot < CLAIMS;
+    let count_at = if active { part::ACTIVE_COUNT } else { part::WAITING_COUNT };
+    let start = if active { part::ACTIVE } else { part::WAITING };
+    let (count, slot) = (usize::from(bytes[count_at]), slot % CLAIMS);
+    if count > CLAIMS || slot >= count {
         return false;
     }
-    let at = start + 44 * (slot % 8);
-    part.copy_within(at + 44..start + 352, at);
-    part[start + 308..start + 352].fill(0);
-    part[count_at] -= 1;
+    let (at, end) = (start + SLOT_BYTES * slot, start + SLOT_BYTES * CLAIMS);
+    bytes.copy_within(at + SLOT_BYTES..end, at);
+    bytes[end - SLOT_BYTES..end].fill(0);
+    bytes[count_at] -= 1;
     true
 }

@@ -1,4 +1,4 @@
-//! What is done next: busy disks first of all, and between their calls every other thing that can be handed in.
+//! Chooses the next event: mostly a call on one of the busy disks, between them everything else that can be lent.
 
 use crate::chance::Chance;
 use crate::claims;
@@ -8,8 +8,9 @@ use crate::odd;
 use crate::outside::Damaged;
 use second::record;
 use second::{Claim, Desk, Disk, RECORD};
+use stopblocker::layout::MOST_ERROR;
 
-/// Of so many calls some are not what a disk is busy with.
+/// The next event is chosen by a random number below this; most of the numbers mean a call on a busy disk.
 const OF_CALLS: u64 = 2_048;
 
 /// The methods that a disk is asked for.
@@ -69,19 +70,19 @@ impl Traffic {
         }
     }
 
-    /// The next record of a run in which nothing is put on the board from outside: bad ones are 24 bytes long too.
+    /// The next record for the program, whose board nobody else can write. Bad records have 24 bytes too.
     pub fn record(&mut self, second: &Desk) -> [u8; RECORD] {
         let k = self.busy();
         let which = self.chance.below(OF_CALLS);
         self.request(second, k, which).whole()
     }
 
-    /// A record that takes tickets off one disk: readings and their releases, seldom more than one held.
+    /// A record that uses up the tickets of one disk: a reading or its release, seldom with more than one held.
     pub fn wearing(&mut self, second: &Desk, number: u8) -> [u8; RECORD] {
         self.call_on(second, number, Mood { methods: &[4, 5, 6], held: 0 }).whole()
     }
 
-    /// One of the round's disks, now and then in another mood.
+    /// One of the round's disks; now and then it begins to get other methods.
     fn busy(&mut self) -> usize {
         let k = self.chance.below(4) as usize;
         if self.chance.one_in(64) {
@@ -104,9 +105,9 @@ impl Traffic {
         }
     }
 
-    /// A disk without tickets, or one that is not sound, is not kept for long.
+    /// Whether to give up a disk that has no tickets left or isn't sound.
     fn is_done(&mut self, disk: Option<&Disk>) -> bool {
-        disk.map(|disk| disk.next_ticket <= 999_999) != Some(true) && self.chance.one_in(32)
+        disk.map(|disk| disk.next_ticket <= odd::LAST_TICKET) != Some(true) && self.chance.one_in(32)
     }
 
     /// A claim, a release or an open on one of the round's disks.
@@ -132,7 +133,7 @@ impl Traffic {
         }
     }
 
-    /// Of a closed disk or an unsound part: an open first of all.
+    /// A call on a closed disk or an unsound part: mostly an open.
     fn call_on_shut(&mut self, number: u8) -> Call {
         let now = odd::clock(&mut self.chance) as u32;
         let opened = Disk::opened(i64::from(now), 1_000, 1_000);
@@ -149,7 +150,7 @@ impl Traffic {
         let mut aim = None;
         if self.chance.one_in(8) {
             let past = self.chance.one_in(2);
-            limits[self.chance.below(2) as usize] = 2_000_000_000 + u32::from(past);
+            limits[self.chance.below(2) as usize] = MOST_ERROR + u32::from(past);
             aim = Some(Aim { at: At::OpenHigh, past });
         }
         Call::new(&record::open(number, now, limits[0], limits[1])).aimed(aim)
@@ -164,7 +165,15 @@ impl Traffic {
             now = (disk.clock - 1).max(0);
         }
         let ticket = match chance.below(16) {
-            0 => chance.one_of(&[0, 1, disk.next_ticket, disk.next_ticket - 1, 999_999, 1_000_000, u32::MAX as i64]),
+            0 => chance.one_of(&[
+                0,
+                1,
+                disk.next_ticket,
+                disk.next_ticket - 1,
+                odd::LAST_TICKET,
+                odd::LAST_TICKET + 1,
+                u32::MAX as i64,
+            ]),
             1..=3 if !disk.waiting.is_empty() => one_ticket(chance, &disk.waiting),
             4..=8 if !disk.active.is_empty() => disk.active[0].ticket,
             _ if !disk.active.is_empty() => one_ticket(chance, &disk.active),

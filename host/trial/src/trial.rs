@@ -1,4 +1,4 @@
-//! The trial: rounds of events, each from the empty board, so that a round that fails can be run again and made shorter.
+//! The trial: rounds of events, each from the empty board, so that a failing round can be repeated and shortened.
 
 use crate::beside::{Beside, Step};
 use crate::chance::Chance;
@@ -8,16 +8,16 @@ use std::panic::{catch_unwind, AssertUnwindSafe};
 
 /// Calls of a round, at most.
 const ROUND: u64 = 16_384;
-/// After so many calls the whole board is compared.
+/// The whole board is compared each time that this many calls were made.
 const WHOLE_EVERY: u64 = 256;
 
-/// A list of events from the empty board, the last of which fails, and what is wrong.
+/// A list of events from the empty board whose last one fails, and what is wrong.
 pub struct Failure {
     pub events: Vec<Event>,
     pub wrong: String,
 }
 
-/// A panic on the way, of the second program or of the trial's own, is a failure as well.
+/// A panic in the second program or in the trial itself is a failure as well.
 pub fn unpanicked(run: impl FnOnce() -> Result<(), String>) -> Result<(), String> {
     catch_unwind(AssertUnwindSafe(run)).unwrap_or_else(|panic| {
         let text = panic.downcast_ref::<String>().map(String::as_str);
@@ -35,7 +35,7 @@ impl<S: Step> Trial<S> {
         Trial { beside: Beside::new(desk, WHOLE_EVERY), chance: Chance::new(seed) }
     }
 
-    /// Rounds until so many calls are compared.
+    /// Makes rounds until so many calls are compared.
     pub fn run(&mut self, calls: u64) -> Result<(), Failure> {
         let mut events = Vec::with_capacity(ROUND as usize + 1);
         while self.beside.counts.calls < calls {
@@ -51,7 +51,7 @@ impl<S: Step> Trial<S> {
     fn round(&mut self, calls: u64, events: &mut Vec<Event>) -> Result<(), String> {
         self.beside.clear();
         let mut traffic = Traffic::new(self.chance.word());
-        // open disks that are not sound say little: such rounds are short
+        // open disks that are not sound only answer 14: such rounds are short
         let (garbage, open) = self.chance.one_of(&[(false, false), (false, false), (true, false), (true, true)]);
         let length = if open { ROUND / 16 } else { ROUND };
         if garbage {

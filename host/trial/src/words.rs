@@ -4,6 +4,7 @@ use crate::damage::DAMAGES;
 use crate::event::{Call, Event, Why};
 use second::record::{self, Kind};
 use second::{sound, ANSWER, BOARD, PART};
+use stopblocker::layout::{part, CLAIMS, SLOT_BYTES};
 
 const METHODS: [&str; 7] =
     ["ReportUsed", "AddPromised", "SetPromised", "SetState", "ReadUsed", "ReadLoad", "ReadState"];
@@ -89,16 +90,18 @@ fn call_words(call: &Call) -> String {
 }
 
 /// The words of a part that are not zero, a line for the head and one for each slot.
-fn print_part(part: &[u8; PART]) {
-    let slot = |k: usize| if k < 8 { format!("active slot {k}") } else { format!("waiting slot {}", k - 8) };
-    let lines = std::iter::once(("head".to_string(), 0..64));
-    let slots = (0..16).map(|k| (slot(k), 64 + 44 * k..64 + 44 * (k + 1)));
-    for (name, places) in lines.chain(slots) {
+fn print_part(bytes: &[u8; PART]) {
+    let head = std::iter::once(("head".to_string(), 0..part::ACTIVE));
+    let slots = [("active", part::ACTIVE), ("waiting", part::WAITING)].into_iter().flat_map(|(which, start)| {
+        let slot = move |k| start + SLOT_BYTES * k..start + SLOT_BYTES * (k + 1);
+        (0..CLAIMS).map(move |k| (format!("{which} slot {k}"), slot(k)))
+    });
+    for (name, places) in head.chain(slots) {
         let start = places.start;
         let words: Vec<String> = places
             .step_by(4)
-            .filter(|&at| part[at..at + 4] != [0; 4])
-            .map(|at| format!("{}: {}", at - start, hex(&part[at..at + 4])))
+            .filter(|&at| bytes[at..at + 4] != [0; 4])
+            .map(|at| format!("{}: {}", at - start, hex(&bytes[at..at + 4])))
             .collect();
         if !words.is_empty() {
             println!("      {name}, {}", words.join(", "));

@@ -1,9 +1,13 @@
-//! Desks that are wrong: those that 01 names to try a promise against, and some that are wrong in one thing. The trial has to see
-//! each of them.
+//! Wrong desks: those that 01 names to try a promise against, and some that are wrong in one thing. The trial must detect each of
+//! them.
 
 use crate::beside::{Proved, Step};
+use stopblocker::layout::{
+    item, part, put_word, record as at, slot, word_at, ANSWER_BYTES, BOARD_BYTES, CLAIM, DISKS, HEAD_BYTES, ITEMS,
+    ITEM_BYTES, MOST_TICKET, OPEN, PART_BYTES, RECORD_BYTES, RELEASE, SLOT_BYTES,
+};
 
-/// What is wrong.
+/// A wrong desk's call.
 pub type Wrong = fn(&mut [u8], &[u8], &mut [u8]) -> u32;
 
 pub const WRONGS: &[(&str, Wrong)] = &[
@@ -39,27 +43,25 @@ fn right(board: &mut [u8], record: &[u8], answer: &mut [u8]) -> u32 {
     Proved.step(board, record, answer)
 }
 
-/// About one record in 100,000, the same ones in every run.
+/// True for about one record in 100,000, the same ones in every run.
 fn seldom(record: &[u8]) -> bool {
     let mix = |sum: u64, byte: &u8| (sum ^ u64::from(*byte)).wrapping_mul(0x100_0000_01b3);
     (record.iter().fold(0xcbf2_9ce4_8422_2325, mix) >> 20) % 100_000 == 7
 }
 
+/// Where the part of the record's disk begins.
 fn part_at(record: &[u8]) -> usize {
-    64 + 768 * usize::from(record[3])
+    stopblocker::layout::part_at(usize::from(record[at::DISK]))
 }
 
-fn word(bytes: &[u8], at: usize) -> u32 {
-    u32::from_le_bytes(bytes[at..at + 4].try_into().expect("four bytes"))
-}
-
-fn put_word(bytes: &mut [u8], at: usize, word: u32) {
-    bytes[at..at + 4].copy_from_slice(&word.to_le_bytes());
+/// Whether board and record have their lengths, and the record names a disk of the board.
+fn fits(board: &[u8], record: &[u8]) -> bool {
+    board.len() == BOARD_BYTES && record.len() == RECORD_BYTES && usize::from(record[at::DISK]) < DISKS
 }
 
 /// The four words of an answer's item.
 fn put_item(answer: &mut [u8], k: usize, item: [u32; 4]) {
-    item.iter().enumerate().for_each(|(word, &figure)| put_word(answer, 16 * k + 4 * word, figure));
+    item.iter().enumerate().for_each(|(word, &figure)| put_word(answer, ITEM_BYTES * k + 4 * word, figure));
 }
 
 // "a desk that refuses all; one that always answers granted with ticket 1, or does nothing; one that settles everything in the
@@ -87,15 +89,15 @@ fn does_nothing(_: &mut [u8], _: &[u8], _: &mut [u8]) -> u32 {
 fn settles_at_once(board: &mut [u8], record: &[u8], answer: &mut [u8]) -> u32 {
     let code = right(board, record, answer);
     if code == 0 {
-        let mut release: [u8; 24] = record.try_into().expect("24 bytes");
-        release[2] = 3;
-        release[4..7].fill(0);
-        release[12..].fill(0);
-        put_word(&mut release, 12, word(answer, 4));
-        right(board, &release, &mut [0; 144]);
+        let mut release: [u8; RECORD_BYTES] = record.try_into().expect("24 bytes");
+        release[at::KIND] = RELEASE;
+        release[at::METHOD..at::NOW].fill(0);
+        release[at::MEASURED..].fill(0);
+        put_word(&mut release, at::TICKET, word_at(answer, item::TICKET));
+        right(board, &release, &mut [0; ANSWER_BYTES]);
     }
-    if code == 21 && word(record, 12) < word(board, part_at(record) + 4) {
-        put_item(answer, 0, [2, word(record, 12), 0, 0]);
+    if code == 21 && word_at(record, at::TICKET) < word_at(board, part_at(record) + part::NEXT_TICKET) {
+        put_item(answer, 0, [2, word_at(record, at::TICKET), 0, 0]);
         return 2;
     }
     code
@@ -104,8 +106,10 @@ fn settles_at_once(board: &mut [u8], record: &[u8], answer: &mut [u8]) -> u32 {
 /// The amount of a grant is its ticket.
 fn amounts_invented(board: &mut [u8], record: &[u8], answer: &mut [u8]) -> u32 {
     let code = right(board, record, answer);
-    let grants = if code == 2 { 1..9 } else { 0..usize::from(code == 0) };
-    grants.for_each(|k| put_word(answer, 16 * k + 12, word(answer, 16 * k + 4)));
+    let grants = if code == 2 { 1..ITEMS } else { 0..usize::from(code == 0) };
+    for start in grants.map(|k| ITEM_BYTES * k) {
+        put_word(answer, start + item::AMOUNT, word_at(answer, start + item::TICKET));
+    }
     code
 }
 
@@ -115,7 +119,7 @@ fn amounts_invented(board: &mut [u8], record: &[u8], answer: &mut [u8]) -> u32 {
 fn amount_flipped(board: &mut [u8], record: &[u8], answer: &mut [u8]) -> u32 {
     let code = right(board, record, answer);
     if code != 9 && seldom(record) {
-        answer[12] ^= 1;
+        answer[item::AMOUNT] ^= 1;
     }
     code
 }
@@ -124,7 +128,7 @@ fn amount_flipped(board: &mut [u8], record: &[u8], answer: &mut [u8]) -> u32 {
 fn part_flipped(board: &mut [u8], record: &[u8], answer: &mut [u8]) -> u32 {
     let code = right(board, record, answer);
     if code < 9 && seldom(record) {
-        board[part_at(record) + 767] ^= 1;
+        board[part_at(record) + PART_BYTES - 1] ^= 1;
     }
     code
 }
@@ -133,7 +137,8 @@ fn part_flipped(board: &mut [u8], record: &[u8], answer: &mut [u8]) -> u32 {
 fn other_part(board: &mut [u8], record: &[u8], answer: &mut [u8]) -> u32 {
     let code = right(board, record, answer);
     if code < 9 && seldom(record) {
-        board[64 + 768 * ((usize::from(record[3]) + 32) % 64) + 400] ^= 0x40;
+        let other = (usize::from(record[at::DISK]) + DISKS / 2) % DISKS;
+        board[stopblocker::layout::part_at(other) + 400] ^= 0x40;
     }
     code
 }
@@ -142,7 +147,7 @@ fn other_part(board: &mut [u8], record: &[u8], answer: &mut [u8]) -> u32 {
 fn head_byte(board: &mut [u8], record: &[u8], answer: &mut [u8]) -> u32 {
     let code = right(board, record, answer);
     if code == 3 {
-        board[63] = 0;
+        board[HEAD_BYTES - 1] = 0;
     }
     code
 }
@@ -157,7 +162,7 @@ fn answer_kept(board: &mut [u8], record: &[u8], answer: &mut [u8]) -> u32 {
     code
 }
 
-/// 9 stands in the answer buffer.
+/// Refusal 9 writes its number to the answer buffer.
 fn nine_touches(board: &mut [u8], record: &[u8], answer: &mut [u8]) -> u32 {
     let code = right(board, record, answer);
     if code == 9 && answer.len() >= 4 {
@@ -174,82 +179,91 @@ fn code_only(board: &mut [u8], record: &[u8], answer: &mut [u8]) -> u32 {
     }
 }
 
-/// 21 sets the clock.
+/// Refusal 21 sets the clock.
 fn refusal_writes(board: &mut [u8], record: &[u8], answer: &mut [u8]) -> u32 {
     let code = right(board, record, answer);
     if code == 21 {
-        put_word(board, part_at(record), word(record, 8));
+        put_word(board, part_at(record) + part::CLOCK, word_at(record, at::NOW));
     }
     code
 }
 
-/// A claim is granted also where it would be at one priority higher.
+/// A claim is also granted if it would be granted with a priority higher by one.
 fn equal_priority_bars_not(board: &mut [u8], record: &[u8], answer: &mut [u8]) -> u32 {
-    if board.len() != 49_216 || record.len() != 24 || record[2] != 2 || record[3] > 63 || record[5] == 255 {
+    if !fits(board, record) || record[at::KIND] != CLAIM || record[at::PRIORITY] == u8::MAX {
         return right(board, record, answer);
     }
-    let part = part_at(record);
-    let before: [u8; 768] = board[part..part + 768].try_into().expect("768 bytes");
-    let mut higher: [u8; 24] = record.try_into().expect("24 bytes");
-    higher[5] += 1;
+    let start = part_at(record);
+    let own = start..start + PART_BYTES;
+    let before = board[own.clone()].to_vec();
+    let mut higher: [u8; RECORD_BYTES] = record.try_into().expect("24 bytes");
+    higher[at::PRIORITY] += 1;
     if right(board, &higher, answer) != 0 {
-        board[part..part + 768].copy_from_slice(&before);
+        board[own].copy_from_slice(&before);
         return right(board, record, answer);
     }
-    let last = word(board, part + 8) as usize - 1;
-    put_word(board, part + 64 + 44 * last + 8, u32::from(record[5]));
+    let last = start + part::ACTIVE + SLOT_BYTES * (word_at(board, start + part::ACTIVE_COUNT) as usize - 1);
+    put_word(board, last + slot::PRIORITY, u32::from(record[at::PRIORITY]));
     0
 }
 
-/// A fresh reading is decided one second early.
+/// A reading that asks for fresh figures is decided as if it came one second earlier.
 fn fresh_one_second_longer(board: &mut [u8], record: &[u8], answer: &mut [u8]) -> u32 {
-    let now = if record.len() == 24 { word(record, 8) } else { 0 };
-    let asks = record.len() == 24 && record[2] == 2 && record[4] >= 4 && record[6] == 1 && now > 0;
-    if !asks || board.len() != 49_216 || record[3] > 63 || word(board, part_at(record)) >= now {
+    let asks = fits(board, record) && record[at::KIND] == CLAIM && record[at::METHOD] >= 4 && record[at::FRESH] == 1;
+    if !asks {
         return right(board, record, answer);
     }
-    let mut early = [0; 24];
-    early.copy_from_slice(record);
-    put_word(&mut early, 8, now - 1);
+    let (now, clock) = (word_at(record, at::NOW), part_at(record) + part::CLOCK);
+    if now == 0 || word_at(board, clock) >= now {
+        return right(board, record, answer);
+    }
+    let mut early: [u8; RECORD_BYTES] = record.try_into().expect("24 bytes");
+    put_word(&mut early, at::NOW, now - 1);
     let code = right(board, &early, answer);
     if code < 9 {
-        put_word(board, part_at(record), now);
+        put_word(board, clock, now);
     }
     code
 }
 
 /// The spare words of a part's head may be anything.
 fn spare_word_ignored(board: &mut [u8], record: &[u8], answer: &mut [u8]) -> u32 {
-    if board.len() != 49_216 || record.len() != 24 || record[2] == 1 || record[3] > 63 {
+    if !fits(board, record) || record[at::KIND] == OPEN {
         return right(board, record, answer);
     }
-    let at = part_at(record) + 56;
-    let kept: [u8; 8] = board[at..at + 8].try_into().expect("eight bytes");
-    board[at..at + 8].fill(0);
+    let spare = part_at(record) + part::ZERO..part_at(record) + part::ACTIVE;
+    let kept = board[spare.clone()].to_vec();
+    board[spare.clone()].fill(0);
     let code = right(board, record, answer);
-    board[at..at + 8].copy_from_slice(&kept);
+    board[spare].copy_from_slice(&kept);
     code
 }
 
 /// Ticket 999,999 is given to nobody.
 fn last_ticket_lost(board: &mut [u8], record: &[u8], answer: &mut [u8]) -> u32 {
-    let at = if record.len() == 24 && record[3] < 64 { part_at(record) + 4 } else { 0 };
-    if at == 0 || board.len() != 49_216 || record[2] != 2 || word(board, at) != 999_999 {
+    if !fits(board, record) || record[at::KIND] != CLAIM {
         return right(board, record, answer);
     }
-    put_word(board, at, 1_000_000);
+    let next = part_at(record) + part::NEXT_TICKET;
+    if word_at(board, next) != MOST_TICKET {
+        return right(board, record, answer);
+    }
+    put_word(board, next, MOST_TICKET + 1);
     let code = right(board, record, answer);
-    put_word(board, at, 999_999);
+    put_word(board, next, MOST_TICKET);
     code
 }
 
 /// An open leaves what the last slot holds.
 fn opened_over_garbage(board: &mut [u8], record: &[u8], answer: &mut [u8]) -> u32 {
-    let kept = (board.len() == 49_216 && record.len() == 24 && record[3] < 64)
-        .then(|| board[part_at(record) + 724..part_at(record) + 768].to_vec());
+    if !fits(board, record) {
+        return right(board, record, answer);
+    }
+    let end = part_at(record) + PART_BYTES;
+    let kept = board[end - SLOT_BYTES..end].to_vec();
     let code = right(board, record, answer);
-    if let (3, Some(kept)) = (code, kept) {
-        board[part_at(record) + 724..part_at(record) + 768].copy_from_slice(&kept);
+    if code == 3 {
+        board[end - SLOT_BYTES..end].copy_from_slice(&kept);
     }
     code
 }

@@ -35,7 +35,7 @@ pub fn open(part: &mut Part, record: &Record, answer: &mut Answer) -> u32 {
     answer.own(3, 0, 0, 0)
 }
 
-/// Refusals 15 to 19 of a claim, 0 where there is none.
+/// The first of the refusals 15 to 19 that applies to a claim, or 0.
 #[inline(always)]
 fn refusal(part: &Part, claim: &Slot, now: u32) -> u32 {
     let (method, error) = (claim.method.get(), claim.error.get());
@@ -103,7 +103,7 @@ pub fn claim(part: &mut Part, seen: &Seen, record: &Record, answer: &mut Answer)
     answer.items[0].code.get()
 }
 
-/// Puts a claim behind the n waiting ones that are ahead of it.
+/// Puts a claim in its place among the n waiting ones, in the pass's order.
 #[inline(always)]
 fn queue(part: &mut Part, n: usize, claim: Slot) {
     let mut at = n & (PLACES - 1);
@@ -146,7 +146,7 @@ pub fn release(part: &mut Part, seen: &Seen, record: &Record, answer: &mut Answe
     2
 }
 
-/// An active claim shows in the figures. Gives |d| of an add, else 0.
+/// Makes an active claim show in the figures. Returns |d| for an add, else 0.
 #[inline(always)]
 fn land(part: &mut Part, at: usize) -> u64 {
     let claim = part.active[at];
@@ -173,7 +173,7 @@ fn land(part: &mut Part, at: usize) -> u64 {
     0
 }
 
-/// Takes the claim at a place out of the first n: those behind it move up, and the last place is cleared.
+/// Removes claim `at` from the first n: those behind it move up, and the last slot is cleared.
 #[inline(always)]
 fn take(slots: &mut [Slot; PLACES], n: usize, at: usize) {
     let claims = &mut slots[..n];

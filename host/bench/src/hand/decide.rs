@@ -7,13 +7,13 @@ use super::layout::{Item, Part, Slot, Word, PLACES};
 /// ReadState.
 const NEVER: [u8; 8] = [0, 1 << 2, 1 << 1, 1 << 3 | 1 << 6, 0, 0, 1 << 3, 0];
 
-/// By requested method, the active methods whose entry with it is D or G: these have a say in its total, or it in theirs.
+/// By requested method, the methods whose entry with it is D or G: they change its total, or it changes their amounts.
 const COUNTS: [u8; 8] = [1 << 0 | 1 << 4 | 1 << 5, 1 << 5, 1 << 2 | 1 << 5, 0, 1 << 0, 1 << 0 | 1 << 1 | 1 << 2, 0, 0];
 
 /// The methods that are readings.
 const READINGS: u8 = 1 << 4 | 1 << 5 | 1 << 6;
 
-/// What a decision looks at beside the figures.
+/// What a decision needs besides the figures.
 #[derive(Clone, Copy)]
 pub struct Among {
     pub now: u32,
@@ -25,7 +25,7 @@ pub struct Among {
     pub adds: u64,
 }
 
-/// Whether one of the waiting claims ahead bars: they stand in the pass's order, so the first of lower priority ends it.
+/// Whether one of the waiting claims ahead bars. They stand in the pass's order, so the walk ends at the first of lower priority.
 #[inline(always)]
 fn barred(part: &Part, ahead: usize, claim: &Slot, among: &Among) -> bool {
     let method = (claim.method.get() & 7) as usize;
@@ -45,7 +45,7 @@ fn barred(part: &Part, ahead: usize, claim: &Slot, among: &Among) -> bool {
     false
 }
 
-/// The total of the claim if it is granted behind the first waiting ones.
+/// The total of the claim if it is granted; the first `ahead` waiting claims are ahead of it.
 #[inline(always)]
 pub fn decide(part: &Part, ahead: usize, claim: &Slot, among: &Among) -> Option<u32> {
     let method = claim.method.get();
@@ -81,14 +81,14 @@ pub fn decide(part: &Part, ahead: usize, claim: &Slot, among: &Among) -> Option<
     }
 }
 
-/// The gaps of the active writes that count.
+/// The sum of the gaps of the active writes whose methods are in `counts`.
 #[inline(always)]
 fn gaps(part: &Part, actives: usize, counts: u8) -> u64 {
     let counted = |active: &&Slot| counts >> (active.method.get() & 7) & 1 == 1;
     part.active[..actives].iter().filter(counted).map(|active| gap(part, active)).sum()
 }
 
-/// The distances to the active sets that count, if no reading that counts would grow over its limit.
+/// The sum of the distances to the active sets in `counts`; none if a reading in `counts` would grow over its limit.
 #[inline(always)]
 fn distances(part: &Part, actives: usize, claim: &Slot, counts: u8, raise: u64) -> Option<u64> {
     let value = claim.value.signed();
@@ -108,7 +108,7 @@ fn distances(part: &Part, actives: usize, claim: &Slot, counts: u8, raise: u64) 
     }
 }
 
-/// Grants the claim: its readers grow, its total is noted, it stands last among the active ones. Gives its item.
+/// Grants the claim: raises the readings, notes its total, puts it last among the active claims. Returns its item.
 #[inline(always)]
 pub fn grant(part: &mut Part, mut claim: Slot, total: u32, among: &mut Among) -> Item {
     let method = claim.method.get();
@@ -135,7 +135,7 @@ pub fn grant(part: &mut Part, mut claim: Slot, total: u32, among: &mut Among) ->
     Item::of(0, claim.ticket.get(), sum, total)
 }
 
-/// Every active reading of what the write writes grows by its own error and its gap.
+/// Raises every active reading of what the write writes by the write's own error and gap.
 #[inline(always)]
 fn raise_readers(part: &mut Part, claim: &Slot, among: &Among) {
     let readers = COUNTS[(claim.method.get() & 7) as usize] & READINGS;

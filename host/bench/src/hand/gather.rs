@@ -1,4 +1,4 @@
-//! What a claim by itself is held against, and what is wrong with it, gathered without a branch.
+//! The bounds of a claim's words, and what is wrong with claims, collected without a branch.
 
 use super::layout::{Part, Slot};
 use super::sound::{FIRST_READING, MOST_ERROR, MOST_STATE, MOST_VALUE};
@@ -6,13 +6,13 @@ use super::sound::{FIRST_READING, MOST_ERROR, MOST_STATE, MOST_VALUE};
 const MOST_PRIORITY: u32 = 255;
 const MOST_METHOD: u32 = 6;
 
-/// Four words of a slot: its first four, or the four behind them.
+/// Four words of a slot: the first four, or the next four.
 type Four = [u32; 4];
 
 /// The least ticket, method, priority and flag.
 const FIRST: Four = [1, 0, 0, 0];
 
-/// By method, and of all readings at once: the least measuring second, value, error and told.
+/// The least measuring second, value, error and told: a row for each write, one for all readings.
 const THEN: [Four; 5] = [
     [0, MOST_VALUE.wrapping_neg(), 0, 0],
     [0, MOST_VALUE.wrapping_neg(), 0, 0],
@@ -21,7 +21,7 @@ const THEN: [Four; 5] = [
     [0, 0, 0, MOST_ERROR.wrapping_neg()],
 ];
 
-/// How far above the least each may lie, by method and of all readings at once.
+/// How far above its least each word may lie: a row for each write, one for all readings.
 pub struct Above {
     first: [Four; 5],
     then: [Four; 5],
@@ -43,8 +43,8 @@ impl Above {
     }
 }
 
-/// What is wrong, gathered: anything but zeros is. And the last six bits of the tickets, those met and those met again:
-/// where none is met again, the tickets differ.
+/// What is wrong: all zeros if nothing is. And a mask of the tickets' last six bits, with a second one of those that came
+/// twice: where none came twice, all tickets differ.
 #[derive(Default)]
 pub struct Wrong {
     first: Four,
@@ -56,7 +56,7 @@ pub struct Wrong {
 }
 
 impl Wrong {
-    /// A claim by itself: ranges, 16 to 18, told, the two words behind; and its ticket.
+    /// Tests one claim: ranges, 16 to 18, told, the two zero words; and notes its ticket.
     #[inline(always)]
     pub fn gather(&mut self, claim: &Slot, above: &Above) {
         let by = claim.method.get().min(FIRST_READING) as usize;

@@ -1,5 +1,4 @@
-//! docs/LAYOUT.md as structs of bytes: none has an alignment or a byte between its fields, and every pattern of bytes
-//! is a value of it.
+//! docs/LAYOUT.md as structs of bytes: none has an alignment or padding, and any bytes are a valid value.
 
 use std::mem::{align_of, size_of};
 
@@ -121,25 +120,25 @@ impl Part {
     /// The bytes of eight slots.
     #[inline(always)]
     pub fn bytes_of(slots: &[Slot; PLACES]) -> &[u8; PLACES * SLOT_BYTES] {
-        // SAFETY: a Slot is made of bytes alone, without one between its fields.
+        // SAFETY: a Slot consists of bytes only, without padding.
         unsafe { &*(slots as *const [Slot; PLACES] as *const [u8; PLACES * SLOT_BYTES]) }
     }
 
-    /// The disk that stands in 768 lent bytes.
+    /// 768 lent bytes as a disk.
     #[inline(always)]
     pub fn of(bytes: &mut [u8]) -> &mut Part {
         assert_eq!(bytes.len(), PART_BYTES);
-        // SAFETY: a Part is made of bytes alone: it has their size and no alignment, and any bytes are one.
+        // SAFETY: a Part consists of bytes only: it has this size and no alignment, and any bytes are a valid Part.
         unsafe { &mut *(bytes.as_mut_ptr() as *mut Part) }
     }
 }
 
 impl Answer {
-    /// The answer that stands in 144 lent bytes.
+    /// 144 lent bytes as an answer.
     #[inline(always)]
     pub fn of(bytes: &mut [u8]) -> &mut Answer {
         assert_eq!(bytes.len(), ANSWER_BYTES);
-        // SAFETY: as of a Part.
+        // SAFETY: as for a Part.
         unsafe { &mut *(bytes.as_mut_ptr() as *mut Answer) }
     }
 

@@ -1,14 +1,16 @@
-//! A hand-written engine: the desk's rules on the desk's bytes, as fast as one writes them by hand. It is there to
-//! measure the desk against, and is trusted with nothing: `equal` compares it with the desk, byte by byte.
+//! A hand-written engine: the desk's rules on the desk's bytes, written by hand for speed. The desk is measured against
+//! it. Nobody relies on it: `equal` compares it with the desk, byte by byte. It has its own numbers (`layout`), and uses
+//! nothing of the desk's crate.
 //!
-//! What makes it fast, and stands for a reader beside the proved code:
-//! - a lent part is looked at as a struct of words, so that a figure is one load and no claim is copied to be read;
-//! - the soundness test meets every claim once, gathers what is wrong without a branch, and keeps what the decision
-//!   needs: the methods that are active and that wait, as masks, and the sum of the active adds;
-//! - by these masks a decision knows at once whether any claim has a say, and walks over the claims only if one has;
-//! - a pass ends where eight claims are active, since nothing can be granted then.
+//! What makes it fast:
+//! - a lent part is read as a struct of words, so that a figure is one load and no claim is copied;
+//! - the soundness test visits every claim once, collects what is wrong without a branch, and keeps what the decision
+//!   needs: masks of the active and of the waiting methods, and the sum of the active adds;
+//! - with these masks a decision knows at once whether any claim has an entry other than A, and walks over the claims only
+//!   if one has;
+//! - a pass decides nothing while eight claims are active, since nothing can be granted then.
 //!
-//! No check is left out. The one unsafe step is the look at lent bytes as structs of bytes (`layout`).
+//! No check is left out. The one unsafe step is to read lent bytes as structs of bytes (`layout`).
 
 mod calls;
 mod decide;
@@ -27,7 +29,7 @@ const OPEN: u64 = 1;
 const CLAIM: u64 = 2;
 const RELEASE: u64 = 3;
 
-/// The three eights of a record.
+/// A record as three numbers of eight bytes.
 type Record = [u64; 3];
 
 /// One call on lent bytes, as `stopblocker::step`.

@@ -3,8 +3,7 @@
 use super::decide::{decide, grant, Among};
 use super::layout::{Answer, Part, Slot, Word, PLACES};
 
-/// Tries each of the m waiting claims once, in order. Of those tried, the first `kept` still wait. It ends where eight
-/// are active: the rest wait on.
+/// Tries each of the m waiting claims once, in order. The first `kept` slots hold those that were tried and still wait.
 #[inline(always)]
 pub fn pass(part: &mut Part, m: usize, among: &mut Among, answer: &mut Answer) {
     let (mut kept, mut granted) = (0, 0);

@@ -1,4 +1,4 @@
-//! The soundness test: one walk over the claims. What is wrong is gathered, and asked for once.
+//! The soundness test: one walk over the claims, which collects what is wrong; one test at the end.
 
 use super::gather::{Above, Wrong};
 use super::layout::{eight_at, Part, Slot, PLACES, SLOT_BYTES};
@@ -10,7 +10,7 @@ const MOST_NEXT: u32 = 1_000_000;
 const ADD_PROMISED: u32 = 1;
 pub const FIRST_READING: u32 = 4;
 
-/// What the test has seen on the way, for the decision.
+/// What the test found out that the decision needs.
 #[derive(Default)]
 pub struct Seen {
     pub actives: usize,
@@ -51,7 +51,7 @@ fn figures_wrong(part: &Part) -> bool {
     wrong | (part.zero != [0; 8])
 }
 
-/// Whether a byte of the slots behind the first n is not zero. Each length has its own straight line of code.
+/// Whether any byte of the slots behind the first n is not zero. Each length has its own code without a loop.
 #[inline(always)]
 fn rest_wrong(slots: &[Slot; PLACES], n: usize) -> bool {
     match n {
@@ -67,7 +67,7 @@ fn rest_wrong(slots: &[Slot; PLACES], n: usize) -> bool {
     }
 }
 
-/// Whether a byte of the last N slots is not zero: 32 bytes at a time, the last 32 perhaps in part once more.
+/// Whether any byte of the last N slots is not zero: 32 bytes at a time; the last 32 may overlap those before them.
 #[inline(always)]
 fn any_set<const N: usize>(slots: &[Slot; PLACES]) -> bool {
     let bytes = &Part::bytes_of(slots)[(PLACES - N) * SLOT_BYTES..];
@@ -81,7 +81,7 @@ fn any_set<const N: usize>(slots: &[Slot; PLACES]) -> bool {
     all[0] | all[1] | all[2] | all[3] != 0
 }
 
-/// The claims of a part, whatever its figures.
+/// Tests the claims of a part, whatever its figures are.
 #[inline(always)]
 fn claims(part: &Part, n: usize, m: usize) -> Option<Seen> {
     let above = Above::of(part);
@@ -107,7 +107,7 @@ fn claims(part: &Part, n: usize, m: usize) -> Option<Seen> {
     }
     let adds = if active >> ADD_PROMISED & 1 == 1 { sum_of_adds(&part.active[..n]) } else { 0 };
     let sum = part.promised.value.signed().unsigned_abs() as u64 + adds;
-    // where next is 1 there is no ticket: `Above` leaves that to the count
+    // if next is 1 there is no ticket that a claim could have; `Above` does not see that, the number of claims does
     let few = n + m < part.next.get() as usize;
     if wrong.is_any() | !order | !few | never(active, twice) | (sum > MOST_VALUE as u64)
         || wrong.again != 0 && tickets_repeat(&part.active[..n], &part.waiting[..m])
@@ -117,8 +117,8 @@ fn claims(part: &Part, n: usize, m: usize) -> Option<Seen> {
     Some(Seen { actives: n, waitings: m, active: active as u8, waiting: waiting as u8, adds })
 }
 
-/// Whether two active claims have entry N, by the methods that are active and those that are twice: an AddPromised beside
-/// a SetPromised, a SetState beside another or beside a ReadState.
+/// Whether two active claims have entry N, from the active methods and those that two claims have: an AddPromised beside a
+/// SetPromised, a SetState beside a SetState or a ReadState.
 #[inline(always)]
 fn never(active: u32, twice: u32) -> bool {
     let promised = active & active >> 1 & 1 << 1;

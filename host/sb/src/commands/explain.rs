@@ -10,6 +10,7 @@ use crate::pieces::{self, Piece};
 use crate::record::Record;
 use crate::words::Teller;
 use crate::write_text::line_of;
+use stopblocker::Disk;
 
 pub const COMMAND: Command =
     Command { name: "explain", help: HELP, takes: Takes { values: &["--records"], flags: &[], file: true }, run };
@@ -70,7 +71,7 @@ fn said(teller: &mut Teller, text: &str, number: usize, asked: Option<&[Piece]>)
     Ok(teller.tell(&line, record))
 }
 
-/// The record that a line answers, or why it answers none of these.
+/// The record that a line answers, or why it answers none of the given records.
 fn answered<'a>(line: &Line, pieces: &'a [Piece]) -> Result<&'a Result<Record, String>, String> {
     let place = usize::try_from(line.record - 1).ok();
     let piece = place.and_then(|place| pieces.get(place));
@@ -83,14 +84,14 @@ fn answered<'a>(line: &Line, pieces: &'a [Piece]) -> Result<&'a Result<Record, S
     Err(format!("no answer to record {}, which is {said}", line.record))
 }
 
-/// Whether a line can answer a well-formed record; else it was another that was sent.
+/// Whether a line can be the answer to a well-formed record. If not, another record was sent.
 fn may_answer(line: &Line, record: &Record) -> bool {
     let in_range = out_of_range(record).is_empty();
     match (record, line.item.code) {
         (_, 9) => true,
         (_, 10) => false,
-        (_, 11) => line.disk == record.disk() && line.disk > 63,
-        _ if line.disk != record.disk() || line.disk > 63 => false,
+        (_, 11) => line.disk == record.disk() && Disk::new(line.disk).is_none(),
+        _ if line.disk != record.disk() || Disk::new(line.disk).is_none() => false,
         (Record::Release { .. }, 0) => line.of_pass,
         _ if line.of_pass => false,
         (Record::Open { .. }, 3) => in_range,

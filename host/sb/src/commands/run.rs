@@ -36,7 +36,7 @@ fn run(options: &Options) -> Result<(), Ending> {
             let held = BoardFile::hold(Path::new(name))?;
             let mut board = held.read()?.unwrap_or_else(board_file::empty);
             let words = answers(&mut board, &pieces);
-            // Before a word is said: an answer that is told has happened.
+            // The board is written before anything is printed: an answer that people see has happened.
             held.write(&board)?;
             words
         }

@@ -68,8 +68,8 @@ fn disk_of(word: &OsStr) -> Result<Disk, Ending> {
         .ok_or(Ending::Usage(format!("--disk \"{text}\": expected a disk, 0 to 63")))
 }
 
-/// Whether the desk finds an open disk's part sound: the release of ticket 0, which no claim of a sound part has, at a
-/// second that no clock is above, is refused 21 there, and 14 where it isn't sound. A refusal changes nothing.
+/// Whether the desk finds the part of an open disk sound. The call releases ticket 0, which no claim of a sound part has, at
+/// the last second, which no clock is above: it is refused 21 if the part is sound, and 14 if not. A refusal changes nothing.
 fn is_sound(board: &[u8], disk: Disk) -> bool {
     let release = Record::Release { disk: disk.number(), now: u32::MAX, ticket: 0 };
     let code = step(&mut board.to_vec(), &release.bytes(), &mut [0; ANSWER_BYTES]);
