@@ -8,9 +8,14 @@ ghost use lib.ListN.{length, replicate};
 ghost use Rattle.num.specs.Runs.{flat, splice};
 ghost use Rattle.num.specs.Signed.{wordOf};
 ghost use Rattle.answer.specs.declared.Answer.the-variants.{Granted};
-ghost use Rattle.answer.specs.Answers.{numberOf, refusalOf, codeOf, ticketOf, toldOf, amountOf, itemBytes, answerBytes};
+ghost use Rattle.answer.specs.Answers.{numberOf, codeOf, ticketOf, toldOf, amountOf, itemBytes, answerBytes};
 use num::signed::to_word;
 use num::word::put_word;
+
+// The answer buffer: nine items.
+pub const ANSWER_BYTES: usize = 144;
+
+const ITEM_BYTES: usize = 16;
 
 // The refusals, 9 to 21 in 01's order.
 pub enum Refusal {
@@ -59,27 +64,6 @@ pub fn number(r: Refusal) -> u32
     }
 }
 
-// The refusal of a number; of a number that no other has, 21's.
-pub fn refusal_of(number: u32) -> Refusal
-    ensures { λ r. ⌜ r ≡ refusalOf number ⌝ }
-{
-    match number {
-        9 => Refusal::Length,
-        10 => Refusal::Record,
-        11 => Refusal::Disk,
-        12 => Refusal::Open,
-        13 => Refusal::Closed,
-        14 => Refusal::Unsound,
-        15 => Refusal::Clock,
-        16 => Refusal::Method,
-        17 => Refusal::Field,
-        18 => Refusal::OwnError,
-        19 => Refusal::NoTicket,
-        20 => Refusal::Full,
-        _ => Refusal::Ticket,
-    }
-}
-
 // The code of an answer, which the call returns.
 pub fn code(a: Answer) -> u32
     ensures { λ r. ⌜ r ≡ codeOf a ⌝ }
@@ -112,7 +96,7 @@ pub fn put_grant(out: &mut [u8], k: usize, ticket: u32, told: i32, amount: u32)
     requires { ⌜ k < 8 ⌝ }
     ensures { λ _. ⌜ now (out .exit) ≡ splice (now (out .entry)) (16 + 16 * k) (itemBytes (Granted ticket told amount)) ⌝ }
 {
-    put_item(out, 16 + 16 * k, 0, ticket, told, amount);
+    put_item(out, ITEM_BYTES + ITEM_BYTES * k, 0, ticket, told, amount);
 }
 
 // The four figures of an item, one after the other.
@@ -132,7 +116,7 @@ fn clear(out: &mut [u8])
     ensures { λ _. ⌜ now (out .exit) ≡ replicate 144 0 ⌝ }
 {
     let mut i = 0;
-    while i < 144 {
+    while i < ANSWER_BYTES {
         out[i] = 0;
         i += 1;
     }

@@ -109,8 +109,12 @@ opened now l0 l1 =
       next = 1;
     }
 
+-- The limits of used and promised are in range.
+abbrev pub limitsFit : ℕ → ℕ → Bool
+limitsFit l0 l1 = allTrue (leb l0 mostError ∷ leb l1 mostError ∷ [])
+
 abbrev pub openRefusals : ℕ → ℕ → List Rule
-openRefusals l0 l1 = record { number = 17; when = not (allTrue (leb l0 mostError ∷ leb l1 mostError ∷ [])) } ∷ []
+openRefusals l0 l1 = record { number = 17; when = not (limitsFit l0 l1) } ∷ []
 
 unfoldable pub openDisk : ℕ → ℕ → ℕ → Outcome
 openDisk now l0 l1 = unless (openRefusals l0 l1) (accepted (opened now l0 l1) (item 3 0 ∷ []))

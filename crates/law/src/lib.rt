@@ -1,5 +1,7 @@
-// The law of one disk. The rules are definitions in specs/; this file has only the types that the
-// rules share with the code above them.
+// The law of one disk. Its rules are definitions, in specs/. Here stand only the types and the numbers that the rules and the code
+// above them share.
+
+pub mod limits;
 
 // An attribute of a disk: its value, its stamp, the amount of error it carries, and the limit of that
 // amount.

@@ -1,14 +1,14 @@
 -- The bits of a number, with their laws.
 use Prim.Native.Nat.{ℕ, zero, suc, _+_, _-_, _/_, _%_, _^_, _<_}
-use mathlib.Core.Bool.{Bool, true, false, cond, _&&_, _||_}
+use mathlib.Core.Bool.{Bool, true, false, cond, not, _&&_, _||_}
 use mathlib.Core.Logic.{_≢_, ⊎-elim}
 use mathlib.Core.Path.{_≡_, refl, sym, ap, _∙_}
 use native.Mathlib.Nat.{div-self, div-one, div-eq-of-lt, eq-zero-or-pos, mul-mod-left, pow-suc, zero-div}
 use native.Mathlib.Numerals.{add-one}
 use native.Mathlib.Omega.{arith}
-use borrow.Author.Tests.{eqb-false}
+use borrow.Author.Tests.{eqb-true, eqb-false, eq-eqb, ne-eqb}
 use lib.Arith.{lt-one, bin-ind}
-use lib.Bits.{bitAnd, bitOr, and-shr, and-mod, and-le-l, and-le-r, or-add-and, or-shr, or-mod, or-zero-r}
+use lib.Bits.{bitAnd, bitOr, and-shr, and-mod, and-le-l, and-le-r, or-add-and, or-comm, or-shr, or-mod, or-zero-r}
 use lib.Count.{ones, ones-step}
 use lib.Dec.{eqb}
 use lib.Pow.{pow-pos, pow-lt, pow-add, shl-shr, shr-shr, shr-lt}
@@ -114,6 +114,34 @@ or-apart m n k e f = bits-none (bitAnd (bitOr m n) k) (λ a. bit-both (bitOr m n
     neither : (b c d : Bool) → (b && d) ≡ false → (c && d) ≡ false → ((b || c) && d) ≡ false
     neither true c d h k = h
     neither false c d h k = k
+
+-- And where it shares none, neither does.
+or-left-apart : (m n k : ℕ) → bitAnd (bitOr m n) k ≡ 0 → bitAnd m k ≡ 0
+or-left-apart m n k e = bits-none (bitAnd m k) (λ a. bit-both m k a ∙ first (hasBit m a) (hasBit n a) (hasBit k a) (gone a))
+  where
+    gone : (a : ℕ) → ((hasBit m a || hasBit n a) && hasBit k a) ≡ false
+    gone a =
+        ap (λ (b : Bool). b && hasBit k a) (sym (bit-either m n a)) ∙ sym (bit-both (bitOr m n) k a) ∙ ap (λ (y : ℕ). hasBit y a) e ∙ bit-zero a
+
+    first : (b c d : Bool) → ((b || c) && d) ≡ false → (b && d) ≡ false
+    first true c d h = h
+    first false c d h = refl
+
+-- Two masks share a bit.
+abbrev pub shares : ℕ → ℕ → Bool
+shares a b = not (eqb (bitAnd a b) 0)
+
+-- A mask joined with another shares a bit with a third exactly where one of the two does.
+pub shares-either : (m n k : ℕ) → shares (bitOr m n) k ≡ (shares m k || shares n k)
+shares-either m n k = go (eqb (bitAnd m k) 0) (eqb (bitAnd n k) 0) refl refl
+  where
+    both : bitAnd (bitOr m n) k ≡ 0 → (bitAnd m k ≡ 0) × (bitAnd n k ≡ 0)
+    both e = (or-left-apart m n k e, or-left-apart n m k (ap (λ (x : ℕ). bitAnd x k) (or-comm n m) ∙ e))
+
+    go : (b c : Bool) → eqb (bitAnd m k) 0 ≡ b → eqb (bitAnd n k) 0 ≡ c → shares (bitOr m n) k ≡ (not b || not c)
+    go true true h g = ap not (eq-eqb (bitAnd (bitOr m n) k) 0 (or-apart m n k (eqb-true (bitAnd m k) 0 h) (eqb-true (bitAnd n k) 0 g)))
+    go false c h g = ap not (ne-eqb (bitAnd (bitOr m n) k) 0 (λ e. eqb-false (bitAnd m k) 0 h (both e .0)))
+    go true false h g = ap not (ne-eqb (bitAnd (bitOr m n) k) 0 (λ e. eqb-false (bitAnd n k) 0 g (both e .1)))
 
 -- The lowest bit, as a count.
 lowest : (r : ℕ) → r < 2 → cond (eqb r 1) 1 0 ≡ r

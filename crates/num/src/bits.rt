@@ -1,11 +1,8 @@
 // The bits of a mask.
 
-ghost use mathlib.Core.Bool.{not};
 ghost use mathlib.Core.Path.{_≡_};
 ghost use Prim.Native.Nat.{_%_, _^_, _<_};
-ghost use lib.Bits.{bitAnd};
-ghost use lib.Dec.{eqb};
-ghost use Rattle.num.specs.Bits.{hasBit};
+ghost use Rattle.num.specs.Bits.{hasBit, shares};
 
 // Whether bit a of a mask is set.
 pub fn bit(mask: u8, a: u8) -> bool
@@ -23,8 +20,8 @@ pub fn bit_of(a: u32) -> u64
 }
 
 // Whether two masks share a bit.
-pub fn share(a: u64, b: u64) -> bool
-    ensures { λ r. ⌜ r ≡ not (eqb (bitAnd a b) 0) ⌝ }
+pub fn share(a: u8, b: u8) -> bool
+    ensures { λ r. ⌜ r ≡ shares a b ⌝ }
 {
     a & b != 0
 }

@@ -2,62 +2,84 @@
 use Prim.Native.Nat.{ℕ, _≤_, _<_}
 use mathlib.Core.Bool.{Bool, true, false, cond, not, and-false, and-true}
 use mathlib.Core.List.{List, [], _∷_, _++_}
-use mathlib.Core.Path.{_≡_, refl, sym, ap, _∙_}
+use mathlib.Core.Path.{_≡_, refl, sym, ap, _∙_, subst}
 use native.Mathlib.Omega.{arith}
 use lib.Dec.{leb, eqb}
 use lib.IntN.{ℤ, pos, negsuc}
 use lib.Signed.{ltZ}
 use lib.ListN.{length, take}
-use borrow.Author.Tests.{ltb-true, ltb-false, leb-true, leb-false, lt-ltb, le-ltb, le-leb, lt-leb, eq-eqb, ne-eqb, eqb-true, eqb-false}
+use borrow.Author.Tests.{ltb-true, ltb-false, leb-false, lt-ltb, le-ltb, le-leb, lt-leb, eq-eqb, ne-eqb}
 use Rattle.num.specs.Metric.{size}
 use Rattle.law.specs.declared.Claim.{Claim}
-use Rattle.law.specs.Base.{allTrue, All}
+use Rattle.law.specs.Base.{allTrue}
 use Rattle.law.specs.Lists.{never-true}
-use Rattle.law.specs.Types.{mostValue, mostError, mostState, places, lastTicket, Kind, sets, adds, reads, Figures, Disk as LawDisk, Asked as LawAsked, Outcome, refused, accepted}
+use Rattle.law.specs.Types.{mostValue, mostError, mostState, places, lastTicket, a0, a1, a2, Kind, sets, adds, reads, Figures, Disk as LawDisk, Outcome, refused, accepted}
 use Rattle.law.specs.Entries.{kindAt, kindOf}
-use Rattle.law.specs.Granting.{total, grantItem}
-use Rattle.law.specs.Calls.{Rule, unless, fieldTests, ownFits, item, opened, openDisk, asked, at, grantedAtOnce, waitItem, decided, claim}
+use Rattle.law.specs.Granting.{toldBy, total, granted, grantItem}
+use Rattle.law.specs.Calls.{Rule, unless, fieldTests, ownFits, item, asked, at, claim}
 use Rattle.law.specs.Says.{by-test}
-use Rattle.law.specs.Events.{NoneHolds}
+use Rattle.law.specs.Events.{NoneHolds, by-rules}
 use Rattle.law.specs.Sound.{Passes, Sound}
 use Rattle.law.specs.SoundTest.{unrefused}
 use Rattle.law.specs.GrantLaws.{MayGrant, grant-says}
 use Rattle.law.specs.ProperLaws.{proper-kind, disk-proper}
 use Rattle.law.specs.DiskType.{diskTable}
-use Rattle.rules.specs.RowLaws.{row-none}
-use Rattle.rules.specs.Methods.{isReading, writtenBy}
-use Rattle.rules.proofs.MethodLaws.{method-past, method-cases}
+use Rattle.answer.specs.declared.Answer.{Answer}
+use Rattle.answer.specs.declared.Answer.the-variants as A
+use Rattle.answer.specs.declared.Refusal.{Refusal}
+use Rattle.answer.specs.declared.Refusal.the-variants as R
+use Rattle.answer.specs.Answers.{refusalOf}
+use Rattle.rules.specs.RowLaws.{row-length}
+use Rattle.rules.specs.Methods.{isReading, setsState, writtenBy}
 use Rattle.rules.specs.Disks.{figuresIn, diskOf, Good}
-use Rattle.rules.specs.Answers.{valueBy, shownBy, firstNumber, firstRules, coreAt, TakesGrant, grantedOf, waitingOf, emptyOf}
+use Rattle.rules.specs.Answers.{answerOf, answerBy, NewOn, requestOf, valueBy, firstRefusal, firstRules, coreAt, TakesGrant, grantedOf, waitingOf}
 use Rattle.rules.specs.declared.disk.Disk.{Disk}
+use Rattle.rules.specs.declared.fields.Tested.{Tested}
+use Rattle.rules.specs.declared.fields.Tested.the-variants as T
 use Rattle.rules.proofs.RangeLaws.{limit-most, error-most, limit-range, told-most}
 
 -- ---- 17: the fields of a claim
 
--- A state below 0, and one that is not.
-code-below : (z : ℤ) → ltZ z (pos 0) ≡ true → false ≡ valueBy (kindAt diskTable 3) z
-unfolding diskTable
-code-below (pos n) e = absurd (omega (arith, ltb-true n 0 e))
-code-below (negsuc n) e = refl
+-- A state below 0, and one that is not; every other value.
+module _ (z : ℤ) where
+  below-by : (k : Kind) → setsState k ≡ true → ltZ z (pos 0) ≡ true → false ≡ valueBy k z
+  below-by (sets a0) e h = never-true _ e
+  below-by (sets a1) e h = never-true _ e
+  below-by (sets a2) e h = below z h
+    where
+      below : (y : ℤ) → ltZ y (pos 0) ≡ true → false ≡ valueBy (sets a2) y
+      below (pos n) g = absurd (omega (arith, ltb-true n 0 g))
+      below (negsuc n) g = refl
+  below-by (adds a) e h = never-true _ e
+  below-by (reads m) e h = never-true _ e
 
-code-from : (z : ℤ) → ltZ z (pos 0) ≡ false → leb (size z) mostState ≡ valueBy (kindAt diskTable 3) z
-unfolding diskTable
-code-from (pos n) e = refl
-code-from (negsuc n) e = never-true _ (sym e)
+  from-by : (k : Kind) → setsState k ≡ true → ltZ z (pos 0) ≡ false → leb (size z) mostState ≡ valueBy k z
+  from-by (sets a0) e h = never-true _ e
+  from-by (sets a1) e h = never-true _ e
+  from-by (sets a2) e h = from z h
+    where
+      from : (y : ℤ) → ltZ y (pos 0) ≡ false → leb (size y) mostState ≡ valueBy (sets a2) y
+      from (pos n) g = refl
+      from (negsuc n) g = never-true _ (sym g)
+  from-by (adds a) e h = never-true _ e
+  from-by (reads m) e h = never-true _ e
 
-pub state-below : (m : ℕ) (z : ℤ) → m ≡ 3 → ltZ z (pos 0) ≡ true → false ≡ valueBy (kindAt diskTable m) z
-state-below m z e h = rw e (code-below z h)
+  other-by : (k : Kind) → setsState k ≡ false → leb (size z) mostValue ≡ valueBy k z
+  other-by (sets a0) e = refl
+  other-by (sets a1) e = refl
+  other-by (sets a2) e = never-true _ (sym e)
+  other-by (adds a) e = refl
+  other-by (reads m) e = refl
 
-pub state-from : (m : ℕ) (z : ℤ) → m ≡ 3 → ltZ z (pos 0) ≡ false → leb (size z) mostState ≡ valueBy (kindAt diskTable m) z
-state-from m z e h = rw e (code-from z h)
+pub state-below : (m : ℕ) (z : ℤ) → setsState (kindAt diskTable m) ≡ true → ltZ z (pos 0) ≡ true → false ≡ valueBy (kindAt diskTable m) z
+state-below m z e h = below-by z (kindAt diskTable m) e h
 
--- Every other value.
-pub value-other : (m : ℕ) (z : ℤ) → (m ≡ 3 → ⊥) → leb (size z) mostValue ≡ valueBy (kindAt diskTable m) z
-unfolding diskTable
-value-other m z =
-    method-cases (λ n. (n ≡ 3 → ⊥) → leb (size z) mostValue ≡ valueBy (kindAt diskTable n) z)
-    (λ h. refl) (λ h. refl) (λ h. refl) (λ h. absurd (h refl)) (λ h. refl) (λ h. refl) (λ h. refl)
-    (λ n l h. rw (method-past n l)) m
+pub state-from : (m : ℕ) (z : ℤ) → setsState (kindAt diskTable m) ≡ true → ltZ z (pos 0) ≡ false →
+    leb (size z) mostState ≡ valueBy (kindAt diskTable m) z
+state-from m z e h = from-by z (kindAt diskTable m) e h
+
+pub value-other : (m : ℕ) (z : ℤ) → setsState (kindAt diskTable m) ≡ false → leb (size z) mostValue ≡ valueBy (kindAt diskTable m) z
+value-other m z e = other-by z (kindAt diskTable m) e
 
 module _ (now : ℕ) (c : Claim) where
   pub error-over : (k : Kind) → mostError < c .error → false ≡ allTrue (fieldTests now k c)
@@ -113,191 +135,215 @@ unfolding diskTable
 methods = refl
 
 module _ (f : Figures) (clock now : ℕ) (c : Claim) where
+  abbrev first : Tested
+  first = firstRefusal (firstRules f clock now c)
+
   abbrev fields : Bool
   fields = allTrue (fieldTests now (kindOf diskTable c) c)
 
   abbrev own : Bool
   own = ownFits f (kindOf diskTable c) (c .error)
 
-  pub first-15 : now < clock → 15 ≡ firstNumber (firstRules f clock now c)
-  unfolding firstRules
-  first-15 h = rw (lt-ltb now clock h)
+  pub first-clock : now < clock → T.Refused R.Clock ≡ first
+  unfolding firstRules refusalOf
+  first-clock h = rw (lt-ltb now clock h)
 
-  pub first-16 : clock ≤ now → 7 ≤ c .method → 16 ≡ firstNumber (firstRules f clock now c)
-  unfolding firstRules
-  first-16 t m = rw (le-ltb now clock t, le-leb (length (diskTable .kinds)) (c .method) (omega (arith, methods)))
+  pub first-method : clock ≤ now → 7 ≤ c .method → T.Refused R.Method ≡ first
+  unfolding firstRules refusalOf
+  first-method t m = rw (le-ltb now clock t, le-leb (length (diskTable .kinds)) (c .method) (omega (arith, methods)))
 
   -- The tests from here on come with 15 and 16 passed.
   module _ (t : clock ≤ now) (m : c .method < 7) where
     known : leb (length (diskTable .kinds)) (c .method) ≡ false
     known = lt-leb (length (diskTable .kinds)) (c .method) (omega (arith, methods))
 
-    pub first-17 : not fields ≡ true → 17 ≡ firstNumber (firstRules f clock now c)
-    unfolding firstRules
-    first-17 e = rw (le-ltb now clock t, known, e)
+    pub first-field : not fields ≡ true → T.Refused R.Field ≡ first
+    unfolding firstRules refusalOf
+    first-field e = rw (le-ltb now clock t, known, e)
 
-    pub first-18 : not fields ≡ false → not own ≡ true → 18 ≡ firstNumber (firstRules f clock now c)
-    unfolding firstRules
-    first-18 e g = rw (le-ltb now clock t, known, e, g)
+    pub first-own : not fields ≡ false → not own ≡ true → T.Refused R.OwnError ≡ first
+    unfolding firstRules refusalOf
+    first-own e g = rw (le-ltb now clock t, known, e, g)
 
-    pub first-19 : not fields ≡ false → not own ≡ false → 999_999 < c .ticket → 19 ≡ firstNumber (firstRules f clock now c)
-    unfolding firstRules
-    first-19 e g h = rw (le-ltb now clock t, known, e, g, lt-ltb 999_999 (c .ticket) h)
+    pub first-ticket : not fields ≡ false → not own ≡ false → 999_999 < c .ticket → T.Refused R.NoTicket ≡ first
+    unfolding firstRules refusalOf
+    first-ticket e g h = rw (le-ltb now clock t, known, e, g, lt-ltb 999_999 (c .ticket) h)
 
-    pub first-none : not fields ≡ false → not own ≡ false → c .ticket ≤ 999_999 → 0 ≡ firstNumber (firstRules f clock now c)
+    pub first-none : not fields ≡ false → not own ≡ false → c .ticket ≤ 999_999 → T.Passed ≡ first
     unfolding firstRules
     first-none e g h = rw (le-ltb now clock t, known, e, g, le-ltb 999_999 (c .ticket) h)
 
 -- ---- claim: the first refusal, 20, or the decision
 
--- The first of the rules that holds refuses.
-first-some : (rs ss : List Rule) (good : Outcome) → (firstNumber rs ≡ 0 → ⊥) → unless (rs ++ ss) good ≡ refused (firstNumber rs)
-first-some [] ss good h = absurd (h refl)
-first-some (r ∷ rs) ss good h = go (r .when) h (first-some rs ss good)
+-- The answer of a claim: the refusal that the tests find, or else the given answer.
+abbrev after : Tested → Answer → Answer
+after T.Passed a = a
+after (T.Refused r) a = A.Refused r
+
+first-answers : (rs ss : List Rule) (good : Outcome) →
+    after (firstRefusal rs) (answerBy (unless ss good)) ≡ answerBy (unless (rs ++ ss) good)
+first-answers [] ss good = refl
+first-answers (r ∷ rs) ss good = go (r .when) (first-answers rs ss good)
   where
-    go : (b : Bool) → (cond b (r .number) (firstNumber rs) ≡ 0 → ⊥) →
-        ((firstNumber rs ≡ 0 → ⊥) → unless (rs ++ ss) good ≡ refused (firstNumber rs)) →
-        cond b (refused (r .number)) (unless (rs ++ ss) good) ≡ refused (cond b (r .number) (firstNumber rs))
-    go true h k = refl
-    go false h k = k h
+    more : Outcome
+    more = unless (rs ++ ss) good
 
--- Where the first is none, none holds, and those behind them decide.
-none-hold : (rs : List Rule) → All (λ r. 0 < r .number) rs → firstNumber rs ≡ 0 → NoneHolds rs
-none-hold [] p e = tt
-none-hold (r ∷ rs) p e =
-    by-test (λ n. n ≡ 0 → NoneHolds (r ∷ rs)) (r .when) (λ w e. absurd (omega (arith, p .0))) (λ w e. (w, none-hold rs (p .1) e)) e
+    go : (b : Bool) → after (firstRefusal rs) (answerBy (unless ss good)) ≡ answerBy more →
+        after (cond b (T.Refused (refusalOf (r .number))) (firstRefusal rs)) (answerBy (unless ss good))
+        ≡ answerBy (cond b (refused (r .number)) more)
+    go true h = refl
+    go false h = h
 
-unless-rest : (rs ss : List Rule) (good : Outcome) → NoneHolds rs → unless (rs ++ ss) good ≡ unless ss good
-unless-rest [] ss good none = refl
-unless-rest (r ∷ rs) ss good none = rw (none .0) (unless-rest rs ss good (none .1))
+-- Where the tests pass, none of their rules holds.
+abbrev Passing : Tested → Type 0
+Passing T.Passed = Unit {0}
+Passing (T.Refused r) = ⊥
 
-module _ (d : LawDisk) (q : LawAsked) where
-  abbrev rules : List Rule
-  rules = firstRules (d .core .figures) (d .core .clock) (q .now) (asked d q)
+none-hold : (rs : List Rule) → Passing (firstRefusal rs) → NoneHolds rs
+none-hold [] e = tt
+none-hold (r ∷ rs) e =
+    by-test (λ x. Passing x → NoneHolds (r ∷ rs)) (r .when) (λ w e. absurd e) (λ w e. (w, none-hold rs e)) e
 
-  full : Rule
-  full = record { number = 20; when = cond (grantedAtOnce diskTable d q) false (leb places (length (d .waiting))) }
+-- The law's outcome for a new claim, in the terms of the code: the tests before the decision, the decision, a place to wait.
+module _ (d : LawDisk) (now : ℕ) where
+  abbrev tests : Claim → List Rule
+  tests c = firstRules (d .core .figures) (d .core .clock) now c
 
-  claim-is : claim diskTable d q ≡ unless (rules ++ (full ∷ [])) (decided diskTable d q)
-  unfolding claim firstRules full
-  claim-is = refl
+  abbrev at-once : Claim → Bool
+  at-once c = granted diskTable (at d now) (d .waiting) c
 
-  pub claim-refused : (firstNumber rules ≡ 0 → ⊥) → claim diskTable d q ≡ refused (firstNumber rules)
-  claim-refused h = claim-is ∙ first-some rules (full ∷ []) (decided diskTable d q) h
+  abbrev full : Claim → Rule
+  full c = record { number = 20; when = cond (at-once c) false (leb places (length (d .waiting))) }
 
-  module _ (z : firstNumber rules ≡ 0) where
-    none : NoneHolds rules
-    unfolding firstRules
-    none = none-hold rules (omega arith, (omega arith, (omega arith, (omega arith, (omega arith, tt))))) z
+  abbrev grants : Claim → Outcome
+  grants c = accepted (grantedOf d now c) (grantItem diskTable (at d now) c ∷ [])
 
-    claim-rest : claim diskTable d q ≡ unless (full ∷ []) (decided diskTable d q)
-    claim-rest = claim-is ∙ unless-rest rules (full ∷ []) (decided diskTable d q) none
+  abbrev waits : Claim → Outcome
+  waits c = accepted (waitingOf d now c) (item 1 (c .ticket) ∷ [])
 
-    pub claim-granted : grantedAtOnce diskTable d q ≡ true →
-        claim diskTable d q ≡ accepted (grantedOf d (q .now) (asked d q)) (grantItem diskTable (at d (q .now)) (asked d q) ∷ [])
-    unfolding full grantedOf
-    claim-granted g = claim-rest ∙ rw g
+  abbrev outcome : Claim → Outcome
+  outcome c = unless (tests c ++ (full c ∷ [])) (cond (at-once c) (grants c) (waits c))
 
-    pub claim-full : grantedAtOnce diskTable d q ≡ false → places ≤ length (d .waiting) → claim diskTable d q ≡ refused 20
-    unfolding full
-    claim-full g h = claim-rest ∙ rw (g, le-leb places (length (d .waiting)) h)
+  claim-is : (c : Claim) → NewOn d c → claim diskTable d (requestOf now c) ≡ outcome c
+  unfolding claim firstRules grantedOf waitingOf
+  claim-is c new = ap outcome same
+    where
+      same : asked d (requestOf now c) ≡ c
+      same i =
+          record {
+            ticket = sym (new .ticket) i;
+            method = c .method;
+            priority = c .priority;
+            flag = c .flag;
+            measured = c .measured;
+            value = c .value;
+            error = c .error;
+            told = sym (new .told) i;
+            amount = sym (new .amount) i;
+          }
 
-    pub claim-waits : grantedAtOnce diskTable d q ≡ false → length (d .waiting) < places →
-        claim diskTable d q ≡ accepted (waitingOf d (q .now) (asked d q)) (waitItem diskTable d q ∷ [])
-    unfolding full waitingOf
-    claim-waits g h = claim-rest ∙ rw (g, lt-leb places (length (d .waiting)) h)
+  module _ (c : Claim) (new : NewOn d c) where
+    abbrev answered : Answer
+    answered = answerBy (claim diskTable d (requestOf now c))
 
-    pub ticket-fits : d .next ≤ lastTicket
-    unfolding firstRules
-    ticket-fits = ltb-false lastTicket (d .next) (none .1 .1 .1 .1 .0)
+    abbrev rest : Answer
+    rest = answerBy (unless (full c ∷ []) (cond (at-once c) (grants c) (waits c)))
 
-    asked-passes : Passes diskTable (d .core .figures) (q .now) (asked d q)
-    unfolding firstRules
-    asked-passes =
-        unrefused diskTable (d .core .figures) (q .now) (asked d q) .0
-        (none .1 .0, (none .1 .1 .0, (none .1 .1 .1 .0, tt)))
+    -- The answer, by what the tests find.
+    tested : {x : Tested} → x ≡ firstRefusal (tests c) → after x rest ≡ answered
+    tested e = rw (e, claim-is c new) (first-answers (tests c) (full c ∷ []) (cond (at-once c) (grants c) (waits c)))
+
+    pub answer-refused : {r : Refusal} → T.Refused r ≡ firstRefusal (tests c) → A.Refused r ≡ answered
+    answer-refused e = tested e
+
+    module _ (e : T.Passed ≡ firstRefusal (tests c)) where
+      pub passed-none : NoneHolds (tests c)
+      passed-none = none-hold (tests c) (subst (λ (x : Tested). Passing x) e tt)
+
+      passed : {a : Answer} → a ≡ rest → a ≡ answered
+      passed h = h ∙ tested e
+
+      pub answer-granted : at-once c ≡ true →
+          A.Granted (c .ticket) (toldBy (d .core .figures) (kindOf diskTable c)) (total diskTable (at d now) c) ≡ answered
+      unfolding answerOf grantItem
+      answer-granted g = passed (rw g)
+
+      pub answer-full : at-once c ≡ false → places ≤ length (d .waiting) → A.Refused R.Full ≡ answered
+      unfolding refusalOf
+      answer-full g h = passed (rw (g, le-leb places (length (d .waiting)) h))
+
+      pub answer-waits : at-once c ≡ false → length (d .waiting) < places → A.Waits (c .ticket) ≡ answered
+      unfolding answerOf
+      answer-waits g h = passed (rw (g, lt-leb places (length (d .waiting)) h))
+
+-- ---- what a grant and a wait need: no test has refused
+
+module _ (d : Disk) (now : ℕ) (c : Claim) (none : NoneHolds (tests (diskOf d) now c)) where
+  pub ticket-fits : c .ticket ≤ lastTicket
+  unfolding firstRules
+  ticket-fits = ltb-false lastTicket (c .ticket) (none .1 .1 .1 .1 .0)
+
+  passes : Passes diskTable (figuresIn d) now c
+  unfolding firstRules
+  passes = unrefused diskTable (figuresIn d) now c .0 (none .1 .0, (none .1 .1 .0, (none .1 .1 .1 .0, tt)))
+
+  pub takes-grant : (sum : ℕ) → Good d → Sound diskTable (diskOf d) → at-once (diskOf d) now c ≡ true →
+      sum ≡ total diskTable (coreAt d now) c → TakesGrant d now c sum
+  takes-grant sum good s g e =
+      let may : MayGrant diskTable (coreAt d now) c = grant-says diskTable (coreAt d now) (take (d .waitings) (d .waiting)) c g in
+      record {
+        good = good;
+        may = may;
+        told = told-most (figuresIn d) (kindOf diskTable c) (proper-kind diskTable disk-proper (c .method)) (s .values);
+        counts = e;
+        few = omega (arith, may .inLimit, limit-range (figuresIn d) (kindOf diskTable c) (c .error) mostError (λ a. limit-most a _ (s .limits a)) (error-most now (kindOf diskTable c) c (passes .fields)));
+        ticket = ticket-fits;
+      }
 
 -- ---- what the answer of a claim says of its outcome
 
--- A number that is not 0 is the refusal's.
-pub shown-refused : (o : Outcome) → (shownBy o .refusal ≡ 0 → ⊥) → o ≡ refused (shownBy o .refusal)
-shown-refused (refused n) h = refl
-shown-refused (accepted e []) h = absurd (h refl)
-shown-refused (accepted e (i ∷ items)) h = absurd (h refl)
+pub record IsGranted (d : Disk) (now : ℕ) (c : Claim) (told : ℤ) (sum : ℕ) (o : Outcome) : Type 0 where
+  pub is : o ≡ grants (diskOf d) now c
+  pub takes : TakesGrant d now c sum
+  pub tells : told ≡ toldBy (figuresIn d) (kindOf diskTable c)
 
-module _ (d : LawDisk) (q : LawAsked) (z : shownBy (claim diskTable d q) .refusal ≡ 0) where
-  -- No test refuses.
-  pub shown-passed : firstNumber (rules d q) ≡ 0
-  shown-passed = go (eqb (firstNumber (rules d q)) 0) refl
-    where
-      go : (b : Bool) → eqb (firstNumber (rules d q)) 0 ≡ b → firstNumber (rules d q) ≡ 0
-      go true e = eqb-true (firstNumber (rules d q)) 0 e
-      go false e = sym (ap (λ (o : Outcome). shownBy o .refusal) (claim-refused d q (eqb-false (firstNumber (rules d q)) 0 e))) ∙ z
+pub record IsWaiting (d : Disk) (now : ℕ) (c : Claim) (o : Outcome) : Type 0 where
+  pub is : o ≡ waits (diskOf d) now c
+  pub place : d .waitings < places
+  pub ticket : c .ticket ≤ lastTicket
 
-  -- The code 0 is a grant's.
-  pub shown-granted : shownBy (claim diskTable d q) .own .code ≡ 0 → grantedAtOnce diskTable d q ≡ true
-  shown-granted y = go (grantedAtOnce diskTable d q) refl (leb places (length (d .waiting))) refl
-    where
-      go : (b : Bool) → grantedAtOnce diskTable d q ≡ b → (f : Bool) → leb places (length (d .waiting)) ≡ f → grantedAtOnce diskTable d q ≡ true
-      go true g f e = g
-      go false g true e =
-          let o : claim diskTable d q ≡ refused 20 = claim-full d q shown-passed g (leb-true places (length (d .waiting)) e) in
-          absurd (omega (arith, z, ap (λ (o : Outcome). shownBy o .refusal) o))
-      go false g false e =
-          let o : claim diskTable d q ≡ accepted (waitingOf d (q .now) (asked d q)) (waitItem diskTable d q ∷ []) =
-          claim-waits d q shown-passed g (leb-false places (length (d .waiting)) e) in
-          absurd (omega (arith, y, ap (λ (o : Outcome). shownBy o .own .code) o))
+pub record IsRefused (o : Outcome) : Type 0 where
+  pub number : ℕ
+  pub is : o ≡ refused number
 
-  -- Any other is that of a claim that waits.
-  module _ (y : shownBy (claim diskTable d q) .own .code ≡ 0 → ⊥) where
-    pub shown-later : grantedAtOnce diskTable d q ≡ false
-    unfolding grantItem
-    shown-later = go (grantedAtOnce diskTable d q) refl
-      where
-        go : (b : Bool) → grantedAtOnce diskTable d q ≡ b → grantedAtOnce diskTable d q ≡ false
-        go false g = g
-        go true g = absurd (y (ap (λ (o : Outcome). shownBy o .own .code) (claim-granted d q shown-passed g)))
+-- What each answer says. A claim is never released or opened.
+abbrev pub Says : Disk → ℕ → Claim → Outcome → Answer → Type 0
+Says d now c o (A.Granted t z m) = IsGranted d now c z m o
+Says d now c o (A.Waits t) = IsWaiting d now c o
+Says d now c o (A.Released t) = ⊥
+Says d now c o A.Opened = ⊥
+Says d now c o (A.Refused r) = IsRefused o
 
-    pub shown-place : length (d .waiting) < places
-    shown-place = go (leb places (length (d .waiting))) refl
-      where
-        go : (f : Bool) → leb places (length (d .waiting)) ≡ f → length (d .waiting) < places
-        go false e = leb-false places (length (d .waiting)) e
-        go true e =
-            let o : claim diskTable d q ≡ refused 20 = claim-full d q shown-passed shown-later (leb-true places (length (d .waiting)) e) in
-            absurd (omega (arith, z, ap (λ (o : Outcome). shownBy o .refusal) o))
+-- A claim that is neither refused 20 nor granted has a place to wait.
+place-left : (d : Disk) (now : ℕ) (c : Claim) → Good d → full (diskOf d) now c .when ≡ false → at-once (diskOf d) now c ≡ false → d .waitings < places
+place-left d now c good w g =
+    let free : leb places (length (take (d .waitings) (d .waiting))) ≡ false = rw g at w in
+    omega (arith, leb-false places (length (take (d .waitings) (d .waiting))) free, row-length (good .waiting))
 
-pub takes-grant : (d : Disk) (q : LawAsked) (sum : ℕ) → Good d → Sound diskTable (diskOf d) →
-    firstNumber (firstRules (figuresIn d) (d .clock) (q .now) (asked (diskOf d) q)) ≡ 0 → grantedAtOnce diskTable (diskOf d) q ≡ true →
-    sum ≡ total diskTable (coreAt d (q .now)) (asked (diskOf d) q) → TakesGrant d (q .now) (asked (diskOf d) q) sum
-takes-grant d q sum good s z g e =
-    let c : Claim = asked (diskOf d) q in
-    let may : MayGrant diskTable (coreAt d (q .now)) c = grant-says diskTable (coreAt d (q .now)) (take (d .waitings) (d .waiting)) c g in
-    let p : Passes diskTable (figuresIn d) (q .now) c = asked-passes (diskOf d) q z in
-    record {
-      good = good;
-      may = may;
-      told = told-most (figuresIn d) (kindOf diskTable c) (proper-kind diskTable disk-proper (q .method)) (s .values);
-      counts = e;
-      few = omega (arith, may .inLimit, limit-range (figuresIn d) (kindOf diskTable c) (c .error) mostError (λ a. limit-most a _ (s .limits a)) (error-most (q .now) (kindOf diskTable c) c (p .fields)));
-      ticket = ticket-fits (diskOf d) q z;
-    }
+-- Read back from its answer, the outcome is one of three.
+outcome-says : (d : Disk) (now : ℕ) (c : Claim) → Good d → Sound diskTable (diskOf d) →
+    Says d now c (outcome (diskOf d) now c) (answerBy (outcome (diskOf d) now c))
+unfolding firstRules answerOf grantItem
+outcome-says d now c good s =
+    let l : LawDisk = diskOf d in
+    by-rules (λ o. Says d now c o (answerBy o)) (tests l now c ++ (full l now c ∷ [])) (cond (at-once l now c) (grants l now c) (waits l now c))
+    (λ n. record { number = n; is = refl })
+    (λ none.
+    let first : NoneHolds (tests l now c) = (none .0, (none .1 .0, (none .1 .1 .0, (none .1 .1 .1 .0, (none .1 .1 .1 .1 .0, tt))))) in
+    by-test (λ o. Says d now c o (answerBy o)) (at-once l now c)
+    (λ g. record { is = refl; takes = takes-grant d now c first _ good s g refl; tells = refl })
+    (λ g. record { is = refl; place = place-left d now c good (none .1 .1 .1 .1 .1 .0) g; ticket = ticket-fits d now c first }))
 
--- ---- open
-
-module _ (now l0 l1 : ℕ) where
-  pub open-over-0 : mostError < l0 → openDisk now l0 l1 ≡ refused 17
-  unfolding openDisk
-  open-over-0 h = rw (lt-leb l0 mostError h)
-
-  pub open-over-1 : l0 ≤ mostError → mostError < l1 → openDisk now l0 l1 ≡ refused 17
-  unfolding openDisk
-  open-over-1 h k = rw (le-leb l0 mostError h, lt-leb l1 mostError k)
-
-  pub open-fits : l0 ≤ mostError → l1 ≤ mostError → openDisk now l0 l1 ≡ accepted (opened now l0 l1) (item 3 0 ∷ [])
-  unfolding openDisk
-  open-fits h k = rw (le-leb l0 mostError h, le-leb l1 mostError k)
-
--- A disk without claims is good.
-pub empty-good : (now l0 l1 next : ℕ) → Good (emptyOf now l0 l1 next)
-empty-good now l0 l1 next = record { active = row-none .row; waiting = row-none .row }
+pub answer-says : (d : Disk) (now : ℕ) (c : Claim) → NewOn (diskOf d) c → Good d → Sound diskTable (diskOf d) → {a : Answer} →
+    a ≡ answerBy (claim diskTable (diskOf d) (requestOf now c)) → Says d now c (claim diskTable (diskOf d) (requestOf now c)) a
+answer-says d now c new good s e = rw (e, claim-is (diskOf d) now c new) (outcome-says d now c good s)

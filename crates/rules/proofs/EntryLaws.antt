@@ -10,8 +10,7 @@ use Rattle.law.specs.Entries.{kindAt, entryBy}
 use Rattle.law.specs.Granting.{addsTo}
 use Rattle.law.specs.DiskType.{diskTable}
 use Rattle.law.specs.TableLaws.{entryAt, disk-entry}
-use Rattle.rules.specs.Methods.{isAdd}
-use Rattle.rules.specs.Pairs.{indexOf}
+use Rattle.rules.specs.Methods.{isAdd, indexOf}
 use Rattle.rules.proofs.MethodLaws.{method-past}
 
 -- ---- methods

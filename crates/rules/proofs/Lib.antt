@@ -2,7 +2,6 @@
 pub mod MethodLaws
 pub mod RuleLaws
 pub mod EntryLaws
-pub mod MaskLaws
-pub mod LeftLaws
+pub mod TotalsLaws
 pub mod RangeLaws
 pub mod CallLaws

@@ -4,6 +4,7 @@ use mathlib.Core.Bool.{cond}
 use mathlib.Core.Path.{_≡_, refl}
 use native.Mathlib.Omega.{arith}
 use borrow.Author.Tests.{ne-eqb, le-leb}
+use lib.Bits.{bitOr}
 use lib.Dec.{leb, eqb}
 use lib.IntN.{ℤ}
 use lib.ListN.{List·getD-eq-default}
@@ -14,11 +15,11 @@ use Rattle.law.specs.Readings.{present, carried}
 use Rattle.law.specs.Entries.{kindAt}
 use Rattle.law.specs.Granting.{gapBy, toldBy, carriedBy}
 use Rattle.law.specs.DiskType.{diskTable}
-use Rattle.rules.specs.Methods.{readsBy, writesBy, readMask, writeMask, isReading, isAdd, writtenBy}
+use Rattle.rules.specs.Methods.{setsBy, addsBy, readsBy, writesBy, setMask, addMask, readMask, writeMask, isReading, isAdd, setsState, writtenBy}
 
 -- ---- by method
 
--- A method that there is not reads nothing.
+-- An unknown method reads nothing.
 pub method-past : (m : ℕ) → 7 ≤ m → kindAt diskTable m ≡ reads 0
 unfolding diskTable
 method-past m h = List·getD-eq-default (diskTable .kinds) (reads 0) h
@@ -35,7 +36,7 @@ method-cases P p0 p1 p2 p3 p4 p5 p6 more (suc (suc (suc (suc (suc (suc zero)))))
 method-cases P p0 p1 p2 p3 p4 p5 p6 more (suc (suc (suc (suc (suc (suc (suc m))))))) =
     more (suc (suc (suc (suc (suc (suc (suc m))))))) (omega arith)
 
--- The readings alone read, and the writes alone write.
+-- Any other method than these reads nothing, sets nothing, adds nothing.
 pub read-none : (m : ℕ) → (m ≡ 4 → ⊥) → (m ≡ 5 → ⊥) → (m ≡ 6 → ⊥) → 0 ≡ readMask m
 unfolding readMask diskTable
 read-none =
@@ -44,13 +45,34 @@ read-none =
     (λ x y z. absurd (x refl)) (λ x y z. absurd (y refl)) (λ x y z. absurd (z refl))
     (λ m h x y z. rw (method-past m h))
 
-pub write-none : (m : ℕ) → (m ≡ 0 → ⊥) → (m ≡ 1 → ⊥) → (m ≡ 2 → ⊥) → (m ≡ 3 → ⊥) → 0 ≡ writeMask m
-unfolding writeMask diskTable
-write-none =
-    method-cases (λ m. (m ≡ 0 → ⊥) → (m ≡ 1 → ⊥) → (m ≡ 2 → ⊥) → (m ≡ 3 → ⊥) → 0 ≡ writeMask m)
-    (λ w x y z. absurd (w refl)) (λ w x y z. absurd (x refl)) (λ w x y z. absurd (y refl)) (λ w x y z. absurd (z refl))
-    (λ w x y z. refl) (λ w x y z. refl) (λ w x y z. refl)
-    (λ m h w x y z. rw (method-past m h))
+pub set-none : (m : ℕ) → (m ≡ 0 → ⊥) → (m ≡ 2 → ⊥) → (m ≡ 3 → ⊥) → 0 ≡ setMask m
+unfolding setMask diskTable
+set-none =
+    method-cases (λ m. (m ≡ 0 → ⊥) → (m ≡ 2 → ⊥) → (m ≡ 3 → ⊥) → 0 ≡ setMask m)
+    (λ x y z. absurd (x refl)) (λ x y z. refl) (λ x y z. absurd (y refl)) (λ x y z. absurd (z refl))
+    (λ x y z. refl) (λ x y z. refl) (λ x y z. refl)
+    (λ m h x y z. rw (method-past m h))
+
+pub add-none : (m : ℕ) → (m ≡ 1 → ⊥) → 0 ≡ addMask m
+unfolding addMask diskTable
+add-none =
+    method-cases (λ m. (m ≡ 1 → ⊥) → 0 ≡ addMask m)
+    (λ x. refl) (λ x. absurd (x refl)) (λ x. refl) (λ x. refl) (λ x. refl) (λ x. refl) (λ x. refl)
+    (λ m h x. rw (method-past m h))
+
+-- What a method writes is what it sets and what it adds to.
+write-by : (k : Kind) → bitOr (setsBy k) (addsBy k) ≡ writesBy k
+write-by (sets a0) = refl
+write-by (sets a1) = refl
+write-by (sets a2) = refl
+write-by (adds a0) = refl
+write-by (adds a1) = refl
+write-by (adds a2) = refl
+write-by (reads m) = refl
+
+pub write-is : (m : ℕ) → bitOr (setMask m) (addMask m) ≡ writeMask m
+unfolding setMask addMask writeMask
+write-is m = write-by (kindAt diskTable m)
 
 -- The methods from 4 on are the readings.
 pub reading-from : (m : ℕ) → leb 4 m ≡ isReading (kindAt diskTable m)
@@ -65,6 +87,13 @@ unfolding diskTable
 add-row =
     method-cases (λ m. eqb m 1 ≡ isAdd (kindAt diskTable m)) refl refl refl refl refl refl refl
     (λ m h. rw (method-past m h) (ne-eqb m 1 (λ e. omega arith)))
+
+-- Method 3 alone sets the state.
+pub state-row : (m : ℕ) → eqb m 3 ≡ setsState (kindAt diskTable m)
+unfolding diskTable
+state-row =
+    method-cases (λ m. eqb m 3 ≡ setsState (kindAt diskTable m)) refl refl refl refl refl refl refl
+    (λ m h. rw (method-past m h) (ne-eqb m 3 (λ e. omega arith)))
 
 -- ---- by kind, and so by the masks of a method
 

@@ -1,55 +1,63 @@
--- What is asked of a disk and answered, over the law's requests and outcomes, and the disks that calls leave.
+-- Answers by the law's outcomes, the request that a claim is, and the disks that calls leave.
 use Prim.Native.Nat.{ℕ, _+_, _≤_}
 use mathlib.Core.Bool.{Bool, cond}
 use mathlib.Core.List.{List, [], _∷_, _++_}
 use mathlib.Core.Path.{_≡_}
-use lib.Dec.{leb, ltb}
+use lib.Dec.{leb, ltb, eqb}
 use lib.IntN.{ℤ, pos}
-use lib.ListN.{take, getD, replicate}
+use lib.ListN.{take, getD}
 use Rattle.num.specs.Metric.{size}
 use Rattle.rules.specs.Rows.{noClaim, removeAt}
 use Rattle.law.specs.declared.Claim.{Claim}
-use Rattle.law.specs.Types.{mostValue, mostError, lastTicket, Kind, sets, adds, reads, Figures, Core, Asked as LawAsked, Item as LawItem, Outcome, refused, accepted, Disk as LawDisk}
+use Rattle.law.specs.Types.{mostValue, mostError, lastTicket, Kind, sets, adds, reads, Figures, Core, Asked, Item, Outcome, refused, accepted, Disk as LawDisk}
 use Rattle.law.specs.Entries.{kindOf}
 use Rattle.law.specs.Granting.{total, grant}
-use Rattle.law.specs.Calls.{Rule, valueFits, landBy, queue, newAttr, setClock, claimRefusals}
+use Rattle.law.specs.Calls.{Rule, valueFits, landBy, queue, setClock, claimRefusals}
 use Rattle.law.specs.GrantLaws.{MayGrant}
 use Rattle.law.specs.DiskType.{diskTable}
+use Rattle.answer.specs.declared.Answer.{Answer}
+use Rattle.answer.specs.declared.Answer.the-variants as A
+use Rattle.answer.specs.Answers.{refusalOf}
 use Rattle.rules.specs.declared.disk.Disk.{Disk}
-use Rattle.rules.specs.declared.disk.Item.{Item}
-use Rattle.rules.specs.declared.disk.Asked.{Asked}
-use Rattle.rules.specs.declared.calls.Judgement.{Judgement}
+use Rattle.rules.specs.declared.fields.Tested.{Tested}
+use Rattle.rules.specs.declared.fields.Tested.the-variants as T
 use Rattle.rules.specs.Pairs.{coreOf}
-use Rattle.rules.specs.Disks.{figuresIn, Good, DiskIs, ToldFits}
+use Rattle.rules.specs.Disks.{figuresIn, Good, ToldFits}
 
--- An item that nothing fills.
-abbrev pub noItem : Item
-noItem = record { code = 0; ticket = 0; told = pos 0; amount = 0 }
+-- ---- answers
 
--- What an answer shows of an item of the law.
-abbrev pub shown : LawItem → Item
-shown i = record { code = i .code; ticket = i .ticket; told = i .told; amount = i .amount }
+-- The answer of an item of the law, by its code.
+unfoldable pub answerOf : Item → Answer
+answerOf i =
+    cond (eqb (i .code) 0) (A.Granted (i .ticket) (i .told) (i .amount))
+    (cond (eqb (i .code) 1) (A.Waits (i .ticket)) (cond (eqb (i .code) 2) (A.Released (i .ticket)) A.Opened))
 
--- The request of the law.
-abbrev pub askedOf : Asked → LawAsked
-askedOf q =
-    record {
-      now = q .now;
-      method = q .method;
-      priority = q .priority;
-      flag = q .flag;
-      measured = q .measured;
-      value = q .value;
-      error = q .error;
-    }
+-- The call's own answer, by the law's outcome. (Every accepted call has an item of its own.)
+abbrev pub answerBy : Outcome → Answer
+answerBy (refused n) = A.Refused (refusalOf n)
+answerBy (accepted e []) = A.Opened
+answerBy (accepted e (i ∷ items)) = answerOf i
 
 -- ---- claim
 
--- What an outcome shows without the disk: the refusal's number or 0, and the call's own item.
-abbrev pub shownBy : Outcome → Judgement
-shownBy (refused n) = record { refusal = n; own = noItem }
-shownBy (accepted e []) = record { refusal = 0; own = noItem }
-shownBy (accepted e (i ∷ items)) = record { refusal = 0; own = shown i }
+-- The claim c has not been granted: its ticket is the disk's next, nothing is told and no amount is counted.
+pub record NewOn (d : LawDisk) (c : Claim) : Type 0 where
+  pub ticket : c .ticket ≡ d .next
+  pub told : c .told ≡ pos 0
+  pub amount : c .amount ≡ 0
+
+-- The law's request for the claim c at second now.
+abbrev pub requestOf : ℕ → Claim → Asked
+requestOf now c =
+    record {
+      now = now;
+      method = c .method;
+      priority = c .priority;
+      flag = c .flag;
+      measured = c .measured;
+      value = c .value;
+      error = c .error;
+    }
 
 -- The value that a write of a kind brings is in range.
 abbrev pub valueBy : Kind → ℤ → Bool
@@ -57,10 +65,10 @@ valueBy (sets a) z = valueFits a z
 valueBy (adds a) z = leb (size z) mostValue
 valueBy (reads m) z = leb (size z) mostValue
 
--- The number of the first rule that holds, and 0 where none does.
-abbrev pub firstNumber : List Rule → ℕ
-firstNumber [] = 0
-firstNumber (r ∷ rs) = cond (r .when) (r .number) (firstNumber rs)
+-- The refusal of the first rule that holds, or that none does.
+abbrev pub firstRefusal : List Rule → Tested
+firstRefusal [] = T.Passed
+firstRefusal (r ∷ rs) = cond (r .when) (T.Refused (refusalOf (r .number))) (firstRefusal rs)
 
 -- The refusals of a claim before its decision, 15 to 19; its ticket is the next one.
 unfoldable pub firstRules : Figures → ℕ → ℕ → Claim → List Rule
@@ -112,29 +120,3 @@ endedAt e now at =
 -- The waiting claim at a place gone at second now.
 unfoldable pub leftAt : LawDisk → ℕ → ℕ → LawDisk
 leftAt e now at = record { core = setClock now (e .core); waiting = removeAt at (e .waiting); next = e .next }
-
--- ---- open
-
--- A disk without claims.
-abbrev pub emptyOf : ℕ → ℕ → ℕ → ℕ → Disk
-emptyOf now l0 l1 next =
-    record {
-      clock = now;
-      next = next;
-      actives = 0;
-      waitings = 0;
-      used = newAttr now l0;
-      promised = newAttr now l1;
-      state = newAttr now 0;
-      active = replicate 8 noClaim;
-      waiting = replicate 8 noClaim;
-    }
-
--- What stands for no disk: a disk of zeros.
-abbrev pub noDisk : Disk
-noDisk = emptyOf 0 0 0 0
-
--- An open: a refusal has its number and the disk of zeros, an accepted one 0 and the opened disk.
-abbrev pub Answers : ℕ → Disk → Outcome → Type 0
-Answers number e (refused n) = (number ≡ n) × (e ≡ noDisk)
-Answers number e (accepted f items) = (number ≡ 0) × DiskIs e f

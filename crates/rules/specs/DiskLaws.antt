@@ -1,4 +1,4 @@
--- Laws of disks by value: a disk of the law has one, and the promise of an open admits one result only.
+-- Laws of disks by value: a disk of the law has exactly one.
 use Prim.Native.Nat.{ℕ, _+_, _-_, _≤_, _<_}
 use mathlib.Core.Bool.{Bool, true, false}
 use mathlib.Core.List.{List}
@@ -10,13 +10,11 @@ use lib.Seq.{getD-take, getD-append-add, ext-getD}
 use borrow.Author.Tests.{ltb-true, ltb-false}
 use Rattle.law.specs.declared.Claim.{Claim}
 use Rattle.law.specs.Lists.{getD-filled}
-use Rattle.law.specs.Types.{Outcome, refused, accepted, Disk as LawDisk}
+use Rattle.law.specs.Types.{Disk as LawDisk}
 use Rattle.rules.specs.Rows.{Row, noClaim}
 use Rattle.rules.specs.RowLaws.{row-length}
 use Rattle.rules.specs.declared.disk.Disk.{Disk}
-use Rattle.rules.specs.declared.calls.Answered.{Answered}
 use Rattle.rules.specs.Disks.{DiskIs, padded, byValue}
-use Rattle.rules.specs.Answers.{Answers}
 
 -- An array is its claims, and clear places behind them.
 pub row-padded : {a : List Claim} {n : ℕ} {l : List Claim} → Row a n → take n a ≡ l → a ≡ padded l
@@ -69,19 +67,3 @@ by-value {e} {f} x =
     ∙ ap (λ (k : ℕ). partsOf f (length (f .core .active)) k (e .active) (e .waiting)) (sym (row-length (g .waiting)) ∙ ap length wait)
     ∙ ap (λ (l : List Claim). partsOf f (length (f .core .active)) (length (f .waiting)) l (e .waiting)) (row-padded (g .active) act)
     ∙ ap (λ (l : List Claim). partsOf f (length (f .core .active)) (length (f .waiting)) (padded (f .core .active)) l) (row-padded (g .waiting) wait)
-
--- So it has one only.
-pub disk-one : {d e : Disk} {f : LawDisk} → DiskIs d f → DiskIs e f → d ≡ e
-disk-one x y = by-value x ∙ sym (by-value y)
-
--- Any two results that the promise of an open admits are equal.
-pub answers-one : (r s : Answered) (o : Outcome) → Answers (r .refusal) (r .disk) o → Answers (s .refusal) (s .disk) o → r ≡ s
-answers-one r s o x y = λ i. record { refusal = number o x y i; disk = disk o x y i }
-  where
-    number : (o : Outcome) → Answers (r .refusal) (r .disk) o → Answers (s .refusal) (s .disk) o → r .refusal ≡ s .refusal
-    number (refused n) x y = x .0 ∙ sym (y .0)
-    number (accepted f items) x y = x .0 ∙ sym (y .0)
-
-    disk : (o : Outcome) → Answers (r .refusal) (r .disk) o → Answers (s .refusal) (s .disk) o → r .disk ≡ s .disk
-    disk (refused n) x y = x .1 ∙ sym (y .1)
-    disk (accepted f items) x y = disk-one (x .1) (y .1)

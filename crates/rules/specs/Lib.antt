@@ -3,7 +3,7 @@ pub mod PlaceLaws
 pub mod RowLaws
 pub mod Methods
 pub mod Pairs
-pub mod Masks
+pub mod Totals
 pub mod Disks
 pub mod Answers
 pub mod DiskLaws

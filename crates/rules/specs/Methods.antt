@@ -1,14 +1,14 @@
 -- What the code says of a method and of one claim, over the law's kinds.
 use Prim.Native.Nat.{ℕ, _+_}
-use mathlib.Core.Bool.{Bool, true, false}
-use mathlib.Core.List.{[], _∷_}
-use lib.Dec.{leb}
+use mathlib.Core.Bool.{Bool, true, false, cond}
+use mathlib.Core.List.{List, [], _∷_}
+use lib.Dec.{leb, ltb}
 use lib.IntN.{ℤ}
 use Rattle.num.specs.Metric.{size}
 use Rattle.law.specs.declared.Attr.{Attr}
 use Rattle.law.specs.declared.Claim.{Claim}
 use Rattle.law.specs.Base.{allTrue}
-use Rattle.law.specs.Types.{mostValue, Attribute, a0, a1, a2, Kind, sets, adds, reads, Figures, attr, Core}
+use Rattle.law.specs.Types.{mostValue, mostError, Attribute, a0, a1, a2, Kind, sets, adds, reads, Figures, attr, Core}
 use Rattle.law.specs.Entries.{kindAt}
 use Rattle.law.specs.Granting.{fresh, addable, bearable}
 use Rattle.law.specs.DiskType.{diskTable}
@@ -17,27 +17,54 @@ use Rattle.law.specs.DiskType.{diskTable}
 abbrev pub figuresOf : Attr → Attr → Attr → Figures
 figuresOf used promised state = record { f0 = used; f1 = promised; f2 = state }
 
--- The mask of what a method reads, and of what it writes.
-abbrev pub readsBy : Kind → ℕ
-readsBy (sets a) = 0
-readsBy (adds a) = 0
-readsBy (reads m) = m
-
+-- The masks of what a method sets, adds to, reads and writes.
 abbrev pub maskOf : Attribute → ℕ
 maskOf a0 = 1
 maskOf a1 = 2
 maskOf a2 = 4
+
+abbrev pub setsBy : Kind → ℕ
+setsBy (sets a) = maskOf a
+setsBy (adds a) = 0
+setsBy (reads m) = 0
+
+abbrev pub addsBy : Kind → ℕ
+addsBy (sets a) = 0
+addsBy (adds a) = maskOf a
+addsBy (reads m) = 0
+
+abbrev pub readsBy : Kind → ℕ
+readsBy (sets a) = 0
+readsBy (adds a) = 0
+readsBy (reads m) = m
 
 abbrev pub writesBy : Kind → ℕ
 writesBy (sets a) = maskOf a
 writesBy (adds a) = maskOf a
 writesBy (reads m) = 0
 
+unfoldable pub setMask : ℕ → ℕ
+setMask m = setsBy (kindAt diskTable m)
+
+unfoldable pub addMask : ℕ → ℕ
+addMask m = addsBy (kindAt diskTable m)
+
 unfoldable pub readMask : ℕ → ℕ
 readMask m = readsBy (kindAt diskTable m)
 
 unfoldable pub writeMask : ℕ → ℕ
 writeMask m = writesBy (kindAt diskTable m)
+
+-- The index of a method in the table; 0 for an unknown method.
+unfoldable pub indexOf : ℕ → ℕ
+indexOf m = cond (ltb m 7) m 0
+
+-- How large the error of each method may be, by the limits of used and promised: a write's own error is within the limit of what it
+-- writes, which is 0 for the state; a reading's is its stated limit.
+abbrev pub mostErrors : ℕ → ℕ → List ℕ
+mostErrors used promised = used ∷ promised ∷ promised ∷ 0 ∷ mostError ∷ mostError ∷ mostError ∷ []
+
+-- ---- the kinds that a test tells apart
 
 abbrev pub isReading : Kind → Bool
 isReading (sets a) = false
@@ -48,6 +75,14 @@ abbrev pub isAdd : Kind → Bool
 isAdd (sets a) = false
 isAdd (adds a) = true
 isAdd (reads m) = false
+
+-- It sets the state.
+abbrev pub setsState : Kind → Bool
+setsState (sets a0) = false
+setsState (sets a1) = false
+setsState (sets a2) = true
+setsState (adds a) = false
+setsState (reads m) = false
 
 -- The attribute that a write writes; the state for a reading.
 abbrev pub writtenBy : Figures → Kind → Attr

@@ -2,7 +2,7 @@
 use Prim.Native.Nat.{ℕ, _+_}
 use mathlib.Core.Bool.{Bool, true, false, cond, not}
 use mathlib.Core.List.{List, [], _∷_}
-use lib.Dec.{leb, ltb}
+use lib.Dec.{leb}
 use Rattle.num.specs.Metric.{size, dist}
 use Rattle.law.specs.declared.Claim.{Claim}
 use Rattle.law.specs.declared.Entry.{Entry}
@@ -21,10 +21,6 @@ coreOf f now ws = record { clock = now; figures = f; active = ws }
 -- What a claim counts in the sum of the active adds.
 unfoldable pub addOf : Claim → ℕ
 addOf w = cond (addsTo a1 (kindAt diskTable (w .method))) (size (w .value)) 0
-
--- The index of a method in the table; the first for a method that there is not.
-unfoldable pub indexOf : ℕ → ℕ
-indexOf m = cond (ltb m 7) m 0
 
 -- An active claim of so much amount and limit lets the requested one pass: not under N, and under G, where a write is requested,
 -- only where the amount so raised stays within the limit.

@@ -1,8 +1,10 @@
 // A disk by value: its clock, the next ticket, its figures, and its claims, of which the first so many
-// places of either array hold the active and the waiting ones.
+// places of either array hold the active and the waiting ones. And the disk that an open leaves.
 
 ghost use mathlib.Core.Path.{_≡_};
-ghost use Rattle.rules.specs.Answers.{noItem};
+ghost use Rattle.law.specs.Calls.{newAttr, opened as lawOpened};
+ghost use Rattle.rules.specs.Disks.{byValue};
+use crate::row::no_claim;
 use law::Attr;
 use law::Claim;
 
@@ -18,33 +20,32 @@ pub struct Disk {
     pub waiting: [Claim; 8],
 }
 
-// An answer item: granted 0, waits 1, released 2, opened 3.
-pub struct Item {
-    pub code: u32,
-    pub ticket: u32,
-    pub told: i32,
-    pub amount: u32,
-}
-
-// The fields of a claim's record.
-pub struct Asked {
-    pub now: u32,
-    pub method: u32,
-    pub priority: u32,
-    pub flag: u32,
-    pub measured: u32,
-    pub value: i32,
-    pub error: u32,
-}
-
-// The item that nothing fills.
-pub fn no_item() -> Item
-    ensures { λ r. ⌜ r ≡ noItem ⌝ }
+// The opened disk: no claims, and every figure 0 at second now.
+pub fn opened(now: u32, l0: u32, l1: u32) -> Disk
+    ensures { λ r. ⌜ r ≡ byValue (lawOpened now l0 l1) ⌝ }
 {
-    Item {
-        code: 0,
-        ticket: 0,
-        told: 0,
+    let none = no_claim();
+    Disk {
+        clock: now,
+        next: 1,
+        actives: 0,
+        waitings: 0,
+        used: blank(now, l0),
+        promised: blank(now, l1),
+        state: blank(now, 0),
+        active: [none; 8],
+        waiting: [none; 8],
+    }
+}
+
+// A figure of an opened disk.
+fn blank(now: u32, limit: u32) -> Attr
+    ensures { λ r. ⌜ r ≡ newAttr now limit ⌝ }
+{
+    Attr {
+        value: 0,
+        stamp: now,
         amount: 0,
+        limit,
     }
 }

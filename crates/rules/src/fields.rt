@@ -1,35 +1,31 @@
-// The fields of a claim: refusals 15 to 19, which need no decision.
+// The fields of a claim and of an open: refusals 15 to 19, which need no decision.
 
 ghost use mathlib.Core.Path.{_≡_};
 ghost use Rattle.law.specs.Base.{allTrue};
 ghost use Rattle.law.specs.Entries.{kindAt, kindOf};
-ghost use Rattle.law.specs.Calls.{fieldTests, ownFits};
+ghost use Rattle.law.specs.Calls.{fieldTests, ownFits, limitsFit};
 ghost use Rattle.law.specs.DiskType.{diskTable};
 ghost use Rattle.rules.specs.Methods.{figuresOf};
-ghost use Rattle.rules.specs.Answers.{valueBy, firstNumber, firstRules};
+ghost use Rattle.rules.specs.Answers.{valueBy, firstRefusal, firstRules};
 use crate::figures::written;
-use crate::method::METHODS;
+use crate::method::is_known;
 use crate::method::is_reading;
+use crate::method::sets_state;
+use answer::Refusal;
 use law::Attr;
 use law::Claim;
+use law::limits::LAST_TICKET;
+use law::limits::MOST_ERROR;
+use law::limits::MOST_STATE;
+use law::limits::MOST_VALUE;
 use num::signed::size;
 use num::signed::within;
-
-const MOST_VALUE: u32 = 1000000000;
-
-const MOST_ERROR: u32 = 2000000000;
-
-const MOST_STATE: u32 = 255;
-
-const STATE: u32 = 3;
-
-const LAST_TICKET: u32 = 999999;
 
 // A state is a code 0 to 255; every other value lies within 1,000,000,000, either way.
 fn value_fits(m: u32, value: i32) -> bool
     ensures { λ r. ⌜ r ≡ valueBy (kindAt diskTable m) value ⌝ }
 {
-    if m == STATE {
+    if sets_state(m) {
         if value < 0 {
             return false;
         }
@@ -71,24 +67,40 @@ pub fn own_fits(m: u32, error: u32, used: Attr, promised: Attr, state: Attr) -> 
     error <= a.limit
 }
 
-// The number of the first of the refusals 15 to 19 that holds, and 0 where none does.
-pub fn checked(c: Claim, now: u32, clock: u32, used: Attr, promised: Attr, state: Attr) -> u32
-    ensures { λ r. ⌜ r ≡ firstNumber (firstRules (figuresOf used promised state) clock now c) ⌝ }
+// What the tests before the decision find.
+pub enum Tested {
+    Passed,
+    Refused(Refusal),
+}
+
+// The first of the refusals 15 to 19 that applies to a claim, or that none does.
+pub fn checked(c: Claim, now: u32, clock: u32, used: Attr, promised: Attr, state: Attr) -> Tested
+    ensures { λ r. ⌜ r ≡ firstRefusal (firstRules (figuresOf used promised state) clock now c) ⌝ }
 {
     if now < clock {
-        return 15;
+        return Tested::Refused(Refusal::Clock);
     }
-    if METHODS <= c.method {
-        return 16;
+    if !is_known(c.method) {
+        return Tested::Refused(Refusal::Method);
     }
     if !fields_fit(c, now) {
-        return 17;
+        return Tested::Refused(Refusal::Field);
     }
     if !own_fits(c.method, c.error, used, promised, state) {
-        return 18;
+        return Tested::Refused(Refusal::OwnError);
     }
     if LAST_TICKET < c.ticket {
-        return 19;
+        return Tested::Refused(Refusal::NoTicket);
     }
-    0
+    Tested::Passed
+}
+
+// Whether the limits that an open gives to used and promised are in range; else it is refused 17.
+pub fn limits_fit(l0: u32, l1: u32) -> bool
+    ensures { λ r. ⌜ r ≡ limitsFit l0 l1 ⌝ }
+{
+    if MOST_ERROR < l0 {
+        return false;
+    }
+    l1 <= MOST_ERROR
 }

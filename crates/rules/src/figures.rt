@@ -17,6 +17,7 @@ use crate::method::reads;
 use crate::method::writes;
 use law::Attr;
 use law::Claim;
+use law::limits::MOST_VALUE;
 use num::bits::bit;
 use num::signed::gap;
 use num::signed::size;
@@ -27,9 +28,6 @@ const USED_VALID: u64 = 300;
 const PROMISED_VALID: u64 = 300;
 
 const STATE_VALID: u64 = 3600;
-
-// Values and amounts to add lie within this, either way.
-const MOST_VALUE: u64 = 1000000000;
 
 // x if it is read, and 0 if not.
 fn if_read(read: bool, x: u32) -> u64
@@ -163,7 +161,7 @@ pub fn preconditions(c: Claim, now: u32, adds: u64, used: Attr, promised: Attr, 
         if (a.limit as u64) < a.amount as u64 + c.error as u64 {
             return false;
         }
-        return size(a.value) as u64 + adds + size(c.value) as u64 <= MOST_VALUE;
+        return size(a.value) as u64 + adds + size(c.value) as u64 <= MOST_VALUE as u64;
     }
     if is_reading(m) {
         if (c.error as u64) < carried(m, used, promised, state) {

@@ -1,22 +1,22 @@
-// The methods of a disk: what each reads and writes, as masks with one bit for each attribute, and
-// the compatibility table.
+// The methods of a disk. No other file knows their numbers: this one says of each method what it sets, adds to and reads, as masks
+// with one bit for each attribute, and its row in the compatibility table.
 
 ghost use mathlib.Core.Path.{_≡_};
-ghost use Prim.Native.Nat.{_≤_, _<_};
-ghost use Rattle.law.specs.Entries.{kindAt};
+ghost use Prim.Native.Nat.{_<_};
+ghost use lib.Dec.{ltb};
+ghost use Rattle.law.specs.Entries.{entryBy, kindAt};
 ghost use Rattle.law.specs.DiskType.{diskTable};
-ghost use Rattle.rules.specs.Methods.{readMask, writeMask, isReading, isAdd};
-ghost use Rattle.rules.specs.Masks.{methodBit, withoutOf, otherMask, neverMask};
+ghost use Rattle.law.specs.TableLaws.{entryAt};
+ghost use Rattle.rules.specs.Methods.{setMask, addMask, readMask, writeMask, isReading, isAdd, setsState, mostErrors, indexOf};
 use law::Entry;
 use law::Entry::A;
 use law::Entry::D;
 use law::Entry::G;
 use law::Entry::N;
-use num::bits::bit_of;
-use num::bits::share;
+use law::limits::MOST_ERROR;
 
 // 0 ReportUsed, 1 AddPromised, 2 SetPromised, 3 SetState, 4 ReadUsed, 5 ReadLoad, 6 ReadState.
-pub const METHODS: u32 = 7;
+const METHODS: u32 = 7;
 
 const REPORT_USED: u32 = 0;
 
@@ -33,13 +33,13 @@ const READ_LOAD: u32 = 5;
 const READ_STATE: u32 = 6;
 
 // The masks: bit 0 used, bit 1 promised, bit 2 state.
-const USED: u8 = 1;
+pub const USED: u8 = 1;
 
-const PROMISED: u8 = 2;
+pub const PROMISED: u8 = 2;
 
 const LOAD: u8 = 3;
 
-const STATE: u8 = 4;
+pub const STATE: u8 = 4;
 
 // The compatibility table. Row: active method; column: requested.
 pub const TABLE: [[Entry; 7]; 7] = [
@@ -52,7 +52,34 @@ pub const TABLE: [[Entry; 7]; 7] = [
     [A, A, A, N, A, A, A],
 ];
 
-// The mask of what a method reads: 0 of a write, and of a method that there is not.
+// Whether there is such a method.
+pub fn is_known(m: u32) -> bool
+    ensures { λ r. ⌜ r ≡ ltb m 7 ⌝ }
+{
+    m < METHODS
+}
+
+// The mask of what a method sets, of what it adds to, and of what it reads. An unknown method does nothing.
+pub fn sets(m: u32) -> u8
+    ensures { λ r. ⌜ r ≡ setMask m ⌝ }
+{
+    match m {
+        REPORT_USED => USED,
+        SET_PROMISED => PROMISED,
+        SET_STATE => STATE,
+        _ => 0,
+    }
+}
+
+pub fn adds(m: u32) -> u8
+    ensures { λ r. ⌜ r ≡ addMask m ⌝ }
+{
+    match m {
+        ADD_PROMISED => PROMISED,
+        _ => 0,
+    }
+}
+
 pub fn reads(m: u32) -> u8
     ensures { λ r. ⌜ r ≡ readMask m ⌝ }
 {
@@ -64,20 +91,14 @@ pub fn reads(m: u32) -> u8
     }
 }
 
-// The mask of what a method writes: 0 of a reading, and of a method that there is not.
+// The mask of what a method writes, by setting it or adding to it.
 pub fn writes(m: u32) -> u8
     ensures { λ r. ⌜ r ≡ writeMask m ⌝ }
 {
-    match m {
-        REPORT_USED => USED,
-        ADD_PROMISED => PROMISED,
-        SET_PROMISED => PROMISED,
-        SET_STATE => STATE,
-        _ => 0,
-    }
+    sets(m) | adds(m)
 }
 
-// Whether a method writes nothing: a reading, or a method that there is not.
+// Whether a method writes nothing: a reading, or an unknown method.
 pub fn is_reading(m: u32) -> bool
     ensures { λ r. ⌜ r ≡ isReading (kindAt diskTable m) ⌝ }
 {
@@ -91,50 +112,47 @@ pub fn is_add(m: u32) -> bool
     m == ADD_PROMISED
 }
 
-// The bit of a method in a mask of methods; none of a method that there is not.
-pub fn own_bit(m: u32) -> u64
-    ensures { λ r. ⌜ r ≡ methodBit m ⌝ }
+// Whether a method sets the state, whose values are codes.
+pub fn sets_state(m: u32) -> bool
+    ensures { λ r. ⌜ r ≡ setsState (kindAt diskTable m) ⌝ }
 {
-    if m < METHODS { bit_of(m) } else { 0 }
+    m == SET_STATE
 }
 
-// The methods that are left where one claim of method m goes: m stays only where it is there twice.
-pub fn without(methods: u64, twice: u64, m: u32) -> u64
-    requires { ⌜ methodBit m ≤ methods ⌝ }
-    ensures { λ r. ⌜ r ≡ withoutOf methods twice m ⌝ }
+// How large the error of each method may be, a row by method: a write's own error is within the limit of what it writes, which is 0
+// for the state; a reading's is its stated limit.
+pub fn most_errors(used: u32, promised: u32) -> [u32; 7]
+    ensures { λ r. ⌜ r ≡ mostErrors used promised ⌝ }
 {
-    let own = own_bit(m);
-    if share(twice, own) {
-        return methods;
-    }
-    methods - own
+    [
+        used,
+        promised,
+        promised,
+        0,
+        MOST_ERROR,
+        MOST_ERROR,
+        MOST_ERROR,
+    ]
 }
 
-// The methods whose entry with m is not A: where none of them is active, no active claim has a say.
-pub fn others(m: u32) -> u64
-    ensures { λ r. ⌜ r ≡ otherMask m ⌝ }
+// The index of a method in the table; 0 for an unknown method, whose entries `entry` knows to be A.
+pub fn index_of(m: u32) -> usize
+    ensures { λ r. ⌜ r ≡ indexOf m ⌝ }
+    ensures { λ r. ⌜ r < 7 ⌝ }
 {
-    match m {
-        REPORT_USED => 49,
-        ADD_PROMISED => 36,
-        SET_PROMISED => 38,
-        SET_STATE => 72,
-        READ_USED => 1,
-        READ_LOAD => 7,
-        READ_STATE => 8,
-        _ => 0,
-    }
+    if m < METHODS { m as usize } else { 0 }
 }
 
-// Those whose entry with m is N: where one of them is active, m waits.
-pub fn never(m: u32) -> u64
-    ensures { λ r. ⌜ r ≡ neverMask m ⌝ }
+// The entry of an active method, the row, and a requested one, by what the table has at their indices. An unknown method has entry A
+// with all.
+pub fn entry(row: u32, col: u32, found: Entry) -> Entry
+    requires { ⌜ found ≡ entryAt (indexOf row) (indexOf col) ⌝ }
+    ensures { λ r. ⌜ r ≡ entryBy (kindAt diskTable row) (kindAt diskTable col) ⌝ }
 {
-    match m {
-        ADD_PROMISED => 4,
-        SET_PROMISED => 2,
-        SET_STATE => 72,
-        READ_STATE => 8,
-        _ => 0,
+    if row < METHODS {
+        if col < METHODS {
+            return found;
+        }
     }
+    Entry::A
 }

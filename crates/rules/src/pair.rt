@@ -1,15 +1,12 @@
 // What two claims have to do with each other: their entry, what it lets pass, costs and raises, and barring.
 
 ghost use mathlib.Core.Path.{_≡_};
-ghost use Prim.Native.Nat.{_≤_, _<_};
-ghost use Rattle.law.specs.Entries.{entryBy, kindAt, isAlways};
-ghost use Rattle.law.specs.DiskType.{diskTable};
-ghost use Rattle.law.specs.TableLaws.{entryAt};
+ghost use Prim.Native.Nat.{_≤_};
+ghost use Rattle.law.specs.Entries.{isAlways};
 ghost use Rattle.rules.specs.Methods.{figuresOf};
-ghost use Rattle.rules.specs.Pairs.{addOf, indexOf, letsBy, costBetween, raiseOf, barsBy};
+ghost use Rattle.rules.specs.Pairs.{addOf, letsBy, costBetween, raiseOf, barsBy};
 use crate::figures::gap_of;
 use crate::figures::preconditions;
-use crate::method::METHODS;
 use crate::method::is_add;
 use law::Attr;
 use law::Claim;
@@ -27,28 +24,6 @@ pub fn add_part(x: Claim) -> u64
     } else {
         0
     }
-}
-
-// The index of a method in the table; the first for a method that there is not.
-pub fn index_of(m: u32) -> usize
-    ensures { λ r. ⌜ r ≡ indexOf m ⌝ }
-    ensures { λ r. ⌜ r < 7 ⌝ }
-{
-    if m < METHODS { m as usize } else { 0 }
-}
-
-// The entry of an active method, the row, and a requested one: what the table has at their indices;
-// A of a method that there is not.
-pub fn entry(row: u32, col: u32, found: Entry) -> Entry
-    requires { ⌜ found ≡ entryAt (indexOf row) (indexOf col) ⌝ }
-    ensures { λ r. ⌜ r ≡ entryBy (kindAt diskTable row) (kindAt diskTable col) ⌝ }
-{
-    if row < METHODS {
-        if col < METHODS {
-            return found;
-        }
-    }
-    Entry::A
 }
 
 // Whether one active claim lets the requested one pass, which raises a reading's amount by so much.

@@ -1,19 +1,29 @@
 -- The code tests in the order of the law.
 use mathlib.Core.Bool.{not}
 use mathlib.Core.Path.{sym, ap, _∙_}
+use Prim.Native.Nat.{_<_}
 use borrow.Author.Needs.{needs}
-use Rattle.rules.proofs.CallLaws.{first-15, first-16, first-17, first-18, first-19, first-none}
+use borrow.Author.Tests.{ltb-true, ltb-false, not-true, not-false}
+use Rattle.rules.proofs.CallLaws.{first-clock, first-method, first-field, first-own, first-ticket, first-none}
 use Rattle.rules.proofs.fields.checked.Statement.{statement}
 use Rattle.rules.proofs.fields.checked.Tie as tie
 
+-- The method is one of the seven.
+known : (m : tie.Else2) → m .before .before .before .args .c .method < 7
+known m = ltb-true _ 7 (sym (m .before .is-known .ensures) ∙ not-false _ (m .if2 .left))
+
 returns : tie.Need-returns
 returns c =
-    first-15 _ _ _ _ (c .if1 .taken)
+    first-clock _ _ _ _ (c .if1 .taken)
+
+is-known-requires : tie.Need-is-known-requires
+is-known-requires c κs = tt
 
 returns-2 : tie.Need-returns-2
 returns-2 c =
     let t = c .before .before in
-    first-16 _ _ _ _ (t .if1 .left) (c .if2 .taken)
+    first-method _ _ _ _ (t .if1 .left)
+    (ltb-false _ 7 (sym (c .before .is-known .ensures) ∙ not-true _ (c .if2 .taken)))
 
 fields-fit-requires : tie.Need-fields-fit-requires
 fields-fit-requires c κs = search needs
@@ -22,7 +32,7 @@ returns-3 : tie.Need-returns-3
 returns-3 c =
     let m = c .before .before in
     let t = m .before .before in
-    first-17 _ _ _ _ (t .if1 .left) (m .if2 .left)
+    first-field _ _ _ _ (t .if1 .left) (known m)
     (ap not (sym (c .before .fields-fit .ensures)) ∙ c .if3 .taken)
 
 own-fits-requires : tie.Need-own-fits-requires
@@ -33,7 +43,7 @@ returns-4 c =
     let f = c .before .before in
     let m = f .before .before in
     let t = m .before .before in
-    first-18 _ _ _ _ (t .if1 .left) (m .if2 .left)
+    first-own _ _ _ _ (t .if1 .left) (known m)
     (ap not (sym (f .before .fields-fit .ensures)) ∙ f .if3 .left)
     (ap not (sym (c .before .own-fits .ensures)) ∙ c .if4 .taken)
 
@@ -43,7 +53,7 @@ returns-5 c =
     let f = o .before .before in
     let m = f .before .before in
     let t = m .before .before in
-    first-19 _ _ _ _ (t .if1 .left) (m .if2 .left)
+    first-ticket _ _ _ _ (t .if1 .left) (known m)
     (ap not (sym (f .before .fields-fit .ensures)) ∙ f .if3 .left)
     (ap not (sym (o .before .own-fits .ensures)) ∙ o .if4 .left)
     (c .if5 .taken)
@@ -54,7 +64,7 @@ returns-6 c =
     let f = o .before .before in
     let m = f .before .before in
     let t = m .before .before in
-    first-none _ _ _ _ (t .if1 .left) (m .if2 .left)
+    first-none _ _ _ _ (t .if1 .left) (known m)
     (ap not (sym (f .before .fields-fit .ensures)) ∙ f .if3 .left)
     (ap not (sym (o .before .own-fits .ensures)) ∙ o .if4 .left)
     (c .if5 .left)
@@ -64,6 +74,7 @@ checked-spec =
     tie.close
     (tie.spec
     returns
+    is-known-requires
     returns-2
     fields-fit-requires
     returns-3

@@ -56,6 +56,9 @@ cast-result-2 c = search needs
 add-result-2 : tie.Need-add-result-2
 add-result-2 c = search needs
 
+cast-result-3 : tie.Need-cast-result-3
+cast-result-3 c = search needs
+
 returns-2 : tie.Need-returns-2
 unfolding preOf
 returns-2 c =
@@ -142,6 +145,7 @@ preconditions-spec =
     size-requires-2
     cast-result-2
     add-result-2
+    cast-result-3
     returns-2
     is-reading-requires
     cast-if4

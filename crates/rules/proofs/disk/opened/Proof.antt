@@ -1,7 +1,9 @@
--- The literal is the disk of the definition.
+-- The literal is the law's opened disk by value.
 use borrow.Author.Needs.{needs}
-use Rattle.rules.proofs.calls.empty.Statement.{statement}
-use Rattle.rules.proofs.calls.empty.Tie as tie
+use Rattle.law.specs.Calls.{opened}
+use Rattle.rules.specs.Disks.{byValue}
+use Rattle.rules.proofs.disk.opened.Statement.{statement}
+use Rattle.rules.proofs.disk.opened.Tie as tie
 
 no-claim-requires : tie.Need-no-claim-requires
 no-claim-requires c κs = search needs
@@ -16,6 +18,7 @@ blank-requires-3 : tie.Need-blank-requires-3
 blank-requires-3 c κs = search needs
 
 returns : tie.Need-returns
+unfolding byValue opened
 returns c =
     rw (
       c .blank3 .ensures,
@@ -24,7 +27,7 @@ returns c =
       c .before .before .before .no-claim .ensures,
     )
 
-pub empty-spec : {M : Type 1} → statement M
-empty-spec =
+pub opened-spec : {M : Type 1} → statement M
+opened-spec =
     tie.close
     (tie.spec no-claim-requires blank-requires blank-requires-2 blank-requires-3 returns)

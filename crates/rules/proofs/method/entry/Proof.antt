@@ -1,8 +1,8 @@
 -- The constant table follows the rule by kinds; a method that there is not reads nothing, and its entries are A.
 use mathlib.Core.Path.{_∙_}
 use Rattle.rules.proofs.EntryLaws.{entry-of, entry-row-past, entry-col-past}
-use Rattle.rules.proofs.pair.entry.Statement.{statement}
-use Rattle.rules.proofs.pair.entry.Tie as tie
+use Rattle.rules.proofs.method.entry.Statement.{statement}
+use Rattle.rules.proofs.method.entry.Tie as tie
 
 returns : tie.Need-returns
 returns c =

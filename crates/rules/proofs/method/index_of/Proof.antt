@@ -2,8 +2,8 @@
 use mathlib.Core.Path.{sym}
 use native.Mathlib.Omega.{arith}
 use Rattle.rules.proofs.EntryLaws.{index-is, index-past}
-use Rattle.rules.proofs.pair.index_of.Statement.{statement}
-use Rattle.rules.proofs.pair.index_of.Tie as tie
+use Rattle.rules.proofs.method.index_of.Statement.{statement}
+use Rattle.rules.proofs.method.index_of.Tie as tie
 
 returns : tie.Need-returns
 returns c = (sym (index-is (c .before .args .m) (c .if1 .taken)), c .if1 .taken)
