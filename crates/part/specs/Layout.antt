@@ -24,6 +24,31 @@ partBytes = 768
 abbrev pub slotBytes : ℕ
 slotBytes = 44
 
+-- Where the words of the head stand: the clock, the next ticket, the two counts, the attributes, and two words that are zero.
+abbrev pub clockAt : ℕ
+clockAt = 0
+
+abbrev pub nextAt : ℕ
+nextAt = 4
+
+abbrev pub activesAt : ℕ
+activesAt = 8
+
+abbrev pub waitingsAt : ℕ
+waitingsAt = 12
+
+abbrev pub usedAt : ℕ
+usedAt = 16
+
+abbrev pub promisedAt : ℕ
+promisedAt = 32
+
+abbrev pub stateAt : ℕ
+stateAt = 48
+
+abbrev pub headSpareAt : ℕ
+headSpareAt = 56
+
 -- Where the slots of the active claims begin, and those of the waiting ones.
 abbrev pub activeAt : ℕ
 activeAt = 64
@@ -81,8 +106,8 @@ attrAt s at =
     record { value = signedAt s at; stamp = wordAt s (at + 4); amount = wordAt s (at + 8); limit = wordAt s (at + 12) }
 
 -- The state's two.
-unfoldable pub stateAt : List ℕ → ℕ → Attr
-stateAt s at = record { value = signedAt s at; stamp = wordAt s (at + 4); amount = 0; limit = 0 }
+unfoldable pub stateIn : List ℕ → ℕ → Attr
+stateIn s at = record { value = signedAt s at; stamp = wordAt s (at + 4); amount = 0; limit = 0 }
 
 unfoldable pub headWords : Disk → List ℕ
 headWords d =
@@ -110,13 +135,13 @@ headWords d =
 unfoldable pub decode : List ℕ → Disk
 decode s =
     record {
-      clock = wordAt s 0;
-      next = wordAt s 4;
-      actives = wordAt s 8;
-      waitings = wordAt s 12;
-      used = attrAt s 16;
-      promised = attrAt s 32;
-      state = stateAt s 48;
+      clock = wordAt s clockAt;
+      next = wordAt s nextAt;
+      actives = wordAt s activesAt;
+      waitings = wordAt s waitingsAt;
+      used = attrAt s usedAt;
+      promised = attrAt s promisedAt;
+      state = stateIn s stateAt;
       active = slots 8 (drop activeAt s);
       waiting = slots 8 (drop waitingAt s);
     }
@@ -142,7 +167,7 @@ slotsWhole s at n = allTrue (leb n 8 ∷ spareZero s at n ∷ zeroAt s (at + slo
 
 -- The part decodes. (Of told and amount, which stand in an active reading only, the law's test speaks.)
 unfoldable pub decodes : List ℕ → Bool
-decodes s = allTrue (zeroAt s 56 8 ∷ slotsWhole s activeAt (wordAt s 8) ∷ slotsWhole s waitingAt (wordAt s 12) ∷ [])
+decodes s = allTrue (zeroAt s headSpareAt 8 ∷ slotsWhole s activeAt (wordAt s activesAt) ∷ slotsWhole s waitingAt (wordAt s waitingsAt) ∷ [])
 
 -- ---- what has a place in a part: words of 32 bits
 

@@ -20,7 +20,7 @@ use Rattle.law.specs.Lists.{Passed, passed, all-passed}
 use Rattle.rules.specs.Rows.{noClaim, Row}
 use Rattle.rules.specs.declared.disk.Disk.{Disk}
 use Rattle.rules.specs.Disks.{Good}
-use Rattle.part.specs.Layout.{slots, inSlots, attrAt, stateAt, headWords, decode, encode, zeroAt, spareZero, slotsWhole, decodes, AttrFits, StateFits, ClaimsFit, DiskFits}
+use Rattle.part.specs.Layout.{slots, inSlots, attrAt, stateIn, headWords, decode, encode, zeroAt, spareZero, slotsWhole, decodes, AttrFits, StateFits, ClaimsFit, DiskFits}
 use Rattle.part.specs.ByteLaws.{wordsFrom, flat-words, word-flat, bytes-append, bytes-drop, bytes-flat, zero-byte, zero-same, word-none}
 use Rattle.part.specs.SlotLaws.{length-slots, length-in-slots, slots-append, slots-back, slots-whole, slots-none, none-at, none-zero, in-slots-append, put-whole, bytes-slots, slots-fit}
 
@@ -127,7 +127,7 @@ decode-good s h z =
 
 -- The head's words are those that stand there.
 head-words : (s : List ℕ) → Bytes s → zeroAt s 56 8 ≡ true → headWords (decode s) ≡ wordsFrom 16 0 s
-unfolding headWords decode attrAt stateAt
+unfolding headWords decode attrAt stateIn
 head-words s b z =
     let zeros : (k : ℕ) → 56 ≤ k → k < 64 → getD s k 0 ≡ 0 = zero-byte s 56 8 z in
     let signed : (at : ℕ) → wordOf (signedOf (wordAt s at)) ≡ wordAt s at =
@@ -195,7 +195,7 @@ state-is a h g =
 
 -- A disk that fits is read back from its part.
 pub decode-encode : (d : Disk) → DiskFits d → decode (encode d) ≡ d
-unfolding decode headWords attrAt stateAt
+unfolding decode headWords attrAt stateIn
 decode-encode d f =
     let word = head-word d in
     rw (
@@ -255,8 +255,8 @@ attr-fits s at b =
       limit = word-at-fits s (at + 12) b;
     }
 
-state-fits : (s : List ℕ) (at : ℕ) → Bytes s → StateFits (stateAt s at)
-unfolding stateAt
+state-fits : (s : List ℕ) (at : ℕ) → Bytes s → StateFits (stateIn s at)
+unfolding stateIn
 state-fits s at b =
     record {
       value = signed-fits (wordAt s at) (word-at-fits s at b);

@@ -1,29 +1,35 @@
 -- Laws of parts: a sound disk has a part, which holds it; a sound part is that of the disk that it holds.
-use Prim.Native.Nat.{ℕ, _+_, _-_, _^_, _≤_, _<_}
-use mathlib.Core.Bool.{Bool, true, false}
-use mathlib.Core.List.{List}
+use Prim.Native.Nat.{ℕ, zero, suc, _+_, _-_, _*_, _^_, _≤_, _<_}
+use mathlib.Core.Bool.{Bool, true, false, cond}
+use mathlib.Core.List.{List, [], _∷_}
 use mathlib.Core.Path.{_≡_, refl, sym, ap, _∙_}
 use native.Mathlib.Omega.{arith}
 use borrow.Author.Tests.{ltb-true, ltb-false}
 use lib.Dec.{ltb}
-use lib.ListN.{length, getD, replicate, length-append, length-replicate, getD-replicate, List·getD-append, List·getD-eq-default}
+use lib.IntN.{ℤ, pos, negsuc}
+use lib.ListN.{length, take, getD, replicate, length-append, length-replicate, getD-replicate, List·getD-append, List·getD-eq-default}
 use lib.Seq.{getD-append-add, take-append-seam}
+use lib.Signed.{mag}
+use Rattle.num.specs.Metric.{size}
 use Rattle.num.specs.Word.{Bytes}
 use Rattle.rules.specs.Rows.{Row, noClaim}
 use Rattle.law.specs.declared.Claim.{Claim}
-use Rattle.law.specs.Base.{All}
+use Rattle.law.specs.Base.{sumOf, All}
 use Rattle.law.specs.Lists.{all-at, and-left, and-right}
 use Rattle.law.specs.Types.{a0, a1, a2, places, Disk as LawDisk}
+use Rattle.law.specs.Entries.{kindAt}
+use Rattle.law.specs.Granting.{addsTo}
 use Rattle.law.specs.Sound.{Sound, sound}
 use Rattle.law.specs.SoundTest.{says-sound}
 use Rattle.law.specs.DiskType.{diskTable}
 use Rattle.rules.specs.declared.disk.Disk.{Disk}
-use Rattle.rules.specs.Disks.{diskOf, DiskIs, padded, byValue}
+use Rattle.rules.specs.Disks.{diskOf, Good, DiskIs, padded, byValue}
+use Rattle.rules.specs.Pairs.{addOf}
 use Rattle.rules.specs.DiskLaws.{by-value}
 use Rattle.part.specs.Layout.{partBytes, decode, encode, decodes, ClaimFits, ClaimsFit, DiskFits}
 use Rattle.part.specs.SlotLaws.{none-fits}
-use Rattle.part.specs.LayoutLaws.{length-encode, decode-encode, encode-decode, decode-good, encode-decodes, encode-bytes}
-use Rattle.part.specs.Held.{held, partFor, soundPart}
+use Rattle.part.specs.LayoutLaws.{length-encode, decode-encode, encode-decode, decode-good, encode-decodes, encode-bytes, decode-fits}
+use Rattle.part.specs.Held.{held, partFor, soundPart, HoldsDisk}
 use Rattle.part.specs.RangeLaws.{active-fits, waiting-fits, attr-fits}
 
 -- ---- a list of at most eight claims in its array
@@ -146,3 +152,34 @@ length-part-for d a w = length-encode (byValue d) (length-padded (d .core .activ
 pub bytes-part-for : (d : LawDisk) → Bytes (partFor d)
 unfolding partFor
 bytes-part-for d = encode-bytes (byValue d)
+
+-- ---- a lent part that holds a disk
+
+pub disk-good : {s : List ℕ} → HoldsDisk s → Good (decode s)
+disk-good {s} h = decode-good s (h .long) (h .whole)
+
+-- Its claims, counted by a number that is read.
+pub active-row : {s : List ℕ} {n : ℕ} → HoldsDisk s → n ≡ decode s .actives → Row (decode s .active) n
+active-row h e = rw e (disk-good h .active)
+
+pub waiting-row : {s : List ℕ} {n : ℕ} → HoldsDisk s → n ≡ decode s .waitings → Row (decode s .waiting) n
+waiting-row h e = rw e (disk-good h .waiting)
+
+-- The |d| of the adds among the first n active claims: each value is one of 32 bits.
+size-most : (z : ℤ) → mag z < 2 ^ 31 → size z ≤ 2_147_483_648
+size-most (pos n) h = omega (arith, h)
+size-most (negsuc n) h = omega (arith, h)
+
+sum-most : (n : ℕ) (cs : List Claim) → ((k : ℕ) → mag (getD cs k noClaim .value) < 2 ^ 31) → sumOf addOf (take n cs) ≤ n * 2_147_483_648
+unfolding addOf
+sum-most zero cs h = omega arith
+sum-most (suc n) [] h = omega arith
+sum-most (suc n) (c ∷ cs) h = omega (arith, one (addsTo a1 (kindAt diskTable (c .method))), sum-most n cs (λ k. h (suc k)))
+  where
+    one : (b : Bool) → cond b (size (c .value)) 0 ≤ 2_147_483_648
+    one true = size-most (c .value) (h 0)
+    one false = omega arith
+
+pub adds-most : {s : List ℕ} → Bytes s → HoldsDisk s → sumOf addOf (take (decode s .actives) (decode s .active)) ≤ 17_179_869_184
+adds-most {s} b h =
+    omega (arith, sum-most (decode s .actives) (decode s .active) (λ k. decode-fits s b .active .each k .value), disk-good h .active .few)

@@ -4,51 +4,80 @@ ghost use mathlib.Core.Path.{_≡_};
 ghost use Prim.Native.Nat.{_+_, _*_, _-_, _≤_};
 ghost use lib.ListN.{length};
 ghost use Rattle.part.specs.Layout.{zeroAt, spareZero, slotsWhole, decodes};
+use crate::layout::ACTIVE_AT;
+use crate::layout::ACTIVES_AT;
+use crate::layout::HEAD_SPARE_AT;
+use crate::layout::PART_BYTES;
+use crate::layout::SLOT_BYTES;
+use crate::layout::SLOT_SPARE;
+use crate::layout::SLOTS_BYTES;
+use crate::layout::WAITING_AT;
+use crate::layout::WAITINGS_AT;
 use num::truth::both;
 use num::word::word_at;
 
-// Whether a part decodes. Where nothing waits, as often, the waiting slots are one range that the compiler knows; where nothing
-// is active either, all slots are one.
+// Whether a part decodes. Where nothing waits, as often, the waiting slots are one range that the compiler knows; where nothing is
+// active either, all slots are one.
 pub fn decodes(s: &[u8]) -> bool
     requires { ⌜ length (now s) ≡ 768 ⌝ }
     ensures { λ r. ⌜ r ≡ decodes (now (s .entry)) ⌝ }
 {
-    if word_at(s, 12) == 0 {
-        if word_at(s, 8) == 0 {
-            return both(zero_words(s, 56, 2), zero_between(s, 64, 768));
+    let spare = zero_words(s, HEAD_SPARE_AT, 2);
+    let actives = word_at(s, ACTIVES_AT);
+    let waitings = word_at(s, WAITINGS_AT);
+    if waitings == 0 {
+        if actives == 0 {
+            return both(spare, zero_between(s, ACTIVE_AT, PART_BYTES));
         }
         return both(
-            zero_words(s, 56, 2),
-            both(slots_whole(s, 64, word_at(s, 8)), zero_between(s, 416, 768)),
+            spare,
+            both(
+                slots_whole(s, ACTIVE_AT, actives),
+                zero_between(s, WAITING_AT, PART_BYTES),
+            ),
         );
     }
     both(
-        zero_words(s, 56, 2),
+        spare,
         both(
-            slots_whole(s, 64, word_at(s, 8)),
-            slots_whole(s, 416, word_at(s, 12)),
+            slots_whole(s, ACTIVE_AT, actives),
+            slots_whole(s, WAITING_AT, waitings),
         ),
     )
 }
 
 // Whether of eight slots the first `n` hold claims, and the others are zero. Each number has its own arm, so that the compiler
-// knows the range behind the claims: so many words that the rest is a multiple of 32 bytes, and the rest.
+// knows the range behind the claims.
 fn slots_whole(s: &[u8], at: usize, n: u32) -> bool
     requires { ⌜ at + 352 ≤ length (now s) ⌝ }
     ensures { λ r. ⌜ r ≡ slotsWhole (now (s .entry)) at n ⌝ }
 {
     match n {
-        0 => zero_between(s, at, at + 352),
-        1 => both(spare_zero(s, at, 1), zero_from(s, at + 44, 5, at + 352)),
-        2 => both(spare_zero(s, at, 2), zero_from(s, at + 88, 2, at + 352)),
-        3 => both(spare_zero(s, at, 3), zero_from(s, at + 132, 7, at + 352)),
-        4 => both(spare_zero(s, at, 4), zero_from(s, at + 176, 4, at + 352)),
-        5 => both(spare_zero(s, at, 5), zero_from(s, at + 220, 1, at + 352)),
-        6 => both(spare_zero(s, at, 6), zero_from(s, at + 264, 6, at + 352)),
-        7 => both(spare_zero(s, at, 7), zero_from(s, at + 308, 3, at + 352)),
-        8 => spare_zero(s, at, 8),
+        0 => claims_then_zero(s, at, 0, 0),
+        1 => claims_then_zero(s, at, 1, 5),
+        2 => claims_then_zero(s, at, 2, 2),
+        3 => claims_then_zero(s, at, 3, 7),
+        4 => claims_then_zero(s, at, 4, 4),
+        5 => claims_then_zero(s, at, 5, 1),
+        6 => claims_then_zero(s, at, 6, 6),
+        7 => claims_then_zero(s, at, 7, 3),
+        8 => claims_then_zero(s, at, 8, 0),
         _ => false,
     }
+}
+
+// That for a number `n`. The first `words` words behind the claims are tested one by one, so many that the rest is a multiple of 32
+// bytes, which the processor tests in wide steps.
+fn claims_then_zero(s: &[u8], at: usize, n: usize, words: usize) -> bool
+    requires { ⌜ at + 352 ≤ length (now s) ⌝ }
+    requires { ⌜ n ≤ 8 ⌝ }
+    requires { ⌜ 44 * n + 4 * words ≤ 352 ⌝ }
+    ensures { λ r. ⌜ r ≡ slotsWhole (now (s .entry)) at n ⌝ }
+{
+    both(
+        spare_zero(s, at, n),
+        zero_from(s, at + SLOT_BYTES * n, words, at + SLOTS_BYTES),
+    )
 }
 
 // Whether the two words behind the figures are zero in each of `n` slots: all are joined, and tested once.
@@ -59,7 +88,7 @@ fn spare_zero(s: &[u8], at: usize, n: usize) -> bool
     let mut all: u32 = 0;
     let mut i: usize = 0;
     while i < n {
-        let p = at + 44 * i + 36;
+        let p = at + SLOT_BYTES * i + SLOT_SPARE;
         all = all | (word_at(s, p) | word_at(s, p + 4));
         i += 1;
     }

@@ -5,6 +5,9 @@ ghost use Prim.Native.Nat.{_+_, _*_, _≤_, _<_};
 ghost use lib.ListN.{length};
 ghost use Rattle.num.specs.Runs.{flat, splice};
 ghost use Rattle.part.specs.Layout.{claimWords, inSlots, headWords, encode};
+use crate::layout::ACTIVE_AT;
+use crate::layout::SLOT_BYTES;
+use crate::layout::WAITING_AT;
 use law::Claim;
 use num::signed::to_word;
 use num::word::put_word;
@@ -19,8 +22,8 @@ pub fn put_disk(s: &mut [u8], d: Disk)
     let waiting = d.waiting;
     let words = head_words(d);
     put_words(s, 0, &words);
-    put_claims(s, 64, active);
-    put_claims(s, 416, waiting);
+    put_claims(s, ACTIVE_AT, active);
+    put_claims(s, WAITING_AT, waiting);
 }
 
 // The words of the head.
@@ -55,7 +58,7 @@ pub fn put_claims(s: &mut [u8], at: usize, cs: [Claim; 8])
     let mut i: usize = 0;
     while i < 8 {
         let c = cs[i];
-        put_claim(s, at + 44 * i, c);
+        put_claim(s, at + SLOT_BYTES * i, c);
         i += 1;
     }
 }

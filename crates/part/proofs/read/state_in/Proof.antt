@@ -1,7 +1,7 @@
--- Each figure read is that of `stateAt`.
+-- Each figure read is that of `stateIn`.
 use borrow.Author.Needs.{needs, sfits-of}
 use mir.Facts.{toZ-ofZ}
-use Rattle.part.specs.Layout.{stateAt}
+use Rattle.part.specs.Layout.{stateIn}
 use Rattle.part.proofs.read.state_in.Statement.{statement}
 use Rattle.part.proofs.read.state_in.Tie as tie
 
@@ -15,7 +15,7 @@ word-at-requires : tie.Need-word-at-requires
 word-at-requires c κs = search needs
 
 returns : tie.Need-returns
-unfolding stateAt
+unfolding stateIn
 returns c =
     rw (toZ-ofZ (sfits-of (c .before .signed-at .ok)), c .before .signed-at .ensures, c .word-at .ensures)
 
