@@ -1,6 +1,7 @@
--- Laws of a grant and of the end of a claim, over the law: what lands, what is raised, and the disk that a grant leaves.
-use Prim.Native.Nat.{ℕ, zero, suc, _+_, _≤_, _<_}
-use mathlib.Core.Bool.{true, false, cond}
+-- Laws of a grant and of the end of a claim, over the law: the masks of a method, what lands, what is raised, and the disk that a
+-- grant leaves.
+use Prim.Native.Nat.{ℕ, _+_, _≤_, _<_}
+use mathlib.Core.Bool.{Bool, true, false, cond}
 use mathlib.Core.List.{List, [], _∷_, _++_, map, map-congr-left}
 use mathlib.Core.Path.{_≡_, refl, sym, ap, _∙_}
 use native.Mathlib.Nat.{add-zero}
@@ -9,12 +10,13 @@ use lib.Dec.{leb}
 use lib.IntN.{pos}
 use lib.ListN.{length, take, drop, getD}
 use lib.Seq.{getD-take}
+use Rattle.num.specs.Bits.{shares}
 use Rattle.num.specs.Metric.{size}
 use Rattle.law.specs.declared.Claim.{Claim}
 use Rattle.law.specs.declared.Entry.{Entry}
 use Rattle.law.specs.declared.Entry.the-variants.{A, N, D, G}
 use Rattle.law.specs.Lists.{never-true, all-at, all-left}
-use Rattle.law.specs.Types.{a1, Kind, sets, adds, reads, Figures, Core, Disk as LawDisk}
+use Rattle.law.specs.Types.{Attribute, a0, a1, a2, Kind, sets, adds, reads, Figures, Core, Disk as LawDisk}
 use Rattle.law.specs.Entries.{isNever, kindAt, kindOf, entry}
 use Rattle.law.specs.Granting.{raisesBy, noteBy, toldBy, amountBy, putTold, gap, total, stays, raised, grant}
 use Rattle.law.specs.GrantLaws.{NotNever, MayGrant}
@@ -23,33 +25,52 @@ use Rattle.law.specs.Sound.{Passes, Sound}
 use Rattle.law.specs.DiskType.{diskTable}
 use Rattle.rules.specs.Rows.{noClaim}
 use Rattle.rules.specs.RowLaws.{row-length, store-last}
-use Rattle.rules.specs.Methods.{isReading}
+use Rattle.rules.specs.Methods.{maskOf, setsBy, addsBy, setMask, addMask, isReading}
 use Rattle.rules.specs.Pairs.{coreOf, letsBy}
 use Rattle.rules.specs.declared.disk.Disk.{Disk}
 use Rattle.rules.specs.Disks.{figuresIn, coreIn, diskOf, Good, DiskIs, grantOf}
+use Rattle.rules.proofs.EntryLaws.{each-kind}
 use Rattle.rules.proofs.RangeLaws.{fields-size}
 use Rattle.slots.specs.Slots.{mapTo, raiseBy, raiseWith, Raisable}
 use Rattle.slots.specs.SlotsLaws.{to-front, to-row}
-use Rattle.change.specs.Holding.{withFigures, withActive, withLast, landOf, noted, raisedOf}
+use Rattle.change.specs.Holding.{withActive, withLast, noted, raisedOf}
+
+-- ---- what the masks say of a method
+
+-- The test of a mask that is at hand answers for the mask of the method.
+pub asked : (x : ℕ) {m n : ℕ} {b answer : Bool} → n ≡ m → b ≡ shares n x → b ≡ answer → shares m x ≡ answer
+asked x e f g = ap (λ (k : ℕ). shares k x) (sym e) ∙ sym f ∙ g
+
+-- A method that has attribute a in its mask of sets is a set of a.
+pub sets-at : (a : Attribute) (m : ℕ) → shares (setMask m) (maskOf a) ≡ true → kindAt diskTable m ≡ sets a
+unfolding setMask
+sets-at a0 =
+    each-kind (λ k. shares (setsBy k) 1 ≡ true → k ≡ sets a0)
+    (λ _. refl) (never-true _) (never-true _) (never-true _) (never-true _) (never-true _) (never-true _) (never-true _)
+sets-at a1 =
+    each-kind (λ k. shares (setsBy k) 2 ≡ true → k ≡ sets a1)
+    (never-true _) (never-true _) (λ _. refl) (never-true _) (never-true _) (never-true _) (never-true _) (never-true _)
+sets-at a2 =
+    each-kind (λ k. shares (setsBy k) 4 ≡ true → k ≡ sets a2)
+    (never-true _) (never-true _) (never-true _) (λ _. refl) (never-true _) (never-true _) (never-true _) (never-true _)
+
+pub adds-at : (m : ℕ) → shares (addMask m) 2 ≡ true → kindAt diskTable m ≡ adds a1
+unfolding addMask
+adds-at =
+    each-kind (λ k. shares (addsBy k) 2 ≡ true → k ≡ adds a1)
+    (never-true _) (λ _. refl) (never-true _) (never-true _) (never-true _) (never-true _) (never-true _) (never-true _)
 
 -- ---- the end of a claim
 
--- It goes by the method.
-pub land-at : (d : Disk) (w : Claim) (m : ℕ) → w .method ≡ m → landOf d w ≡ withFigures d (landBy (figuresIn d) (kindAt diskTable m) w)
-unfolding landOf
-land-at d w m h = ap (λ (k : ℕ). withFigures d (landBy (figuresIn d) (kindAt diskTable k) w)) h
-
--- A method that is none of the writes leaves the figures.
-pub land-none : (f : Figures) (w : Claim) (m : ℕ) → 4 ≤ m → landBy f (kindAt diskTable m) w ≡ f
-unfolding diskTable
-land-none f w zero h = absurd (omega arith)
-land-none f w (suc zero) h = absurd (omega arith)
-land-none f w (suc (suc zero)) h = absurd (omega arith)
-land-none f w (suc (suc (suc zero))) h = absurd (omega arith)
-land-none f w (suc (suc (suc (suc zero)))) h = refl
-land-none f w (suc (suc (suc (suc (suc zero))))) h = refl
-land-none f w (suc (suc (suc (suc (suc (suc zero)))))) h = refl
-land-none f w (suc (suc (suc (suc (suc (suc (suc m))))))) h = refl
+-- A method that neither sets nor adds changes no figure.
+pub land-none : (f : Figures) (w : Claim) (m : ℕ) → shares (setMask m) 1 ≡ false → shares (setMask m) 2 ≡ false → shares (setMask m) 4 ≡ false →
+    shares (addMask m) 2 ≡ false → landBy f (kindAt diskTable m) w ≡ f
+unfolding setMask addMask
+land-none f w =
+    each-kind
+    (λ k. shares (setsBy k) 1 ≡ false → shares (setsBy k) 2 ≡ false → shares (setsBy k) 4 ≡ false → shares (addsBy k) 2 ≡ false → landBy f k w ≡ f)
+    (λ x _ _ _. never-true _ (sym x)) (λ _ _ _ x. never-true _ (sym x)) (λ _ x _ _. never-true _ (sym x)) (λ _ _ x _. never-true _ (sym x))
+    (λ _ _ _ _. refl) (λ _ _ _ _. refl) (λ _ _ _ _. refl) (λ _ _ _ _. refl)
 
 -- An active claim that lands fits: its value and that of promised are in range.
 pub land-fits : (d : LawDisk) (i : ℕ) → Sound diskTable d → i < length (d .core .active) →
@@ -86,9 +107,9 @@ lets-by amount most n G (adds a) r h g = g
 lets-by amount most n G (reads m) r h g = never-true _ (sym r)
 
 -- A granted write raises no active claim past its limit.
-pub raisable : (d : Disk) (c : Claim) → Good d → MayGrant diskTable (coreIn d) c → isReading (kindOf diskTable c) ≡ false →
+within : (d : Disk) (c : Claim) → Good d → MayGrant diskTable (coreIn d) c → isReading (kindOf diskTable c) ≡ false →
     Raisable (d .active) (d .actives) (c .method) (c .error + gap diskTable (coreIn d) c)
-raisable d c good g r i h =
+within d c good g r i h =
     let s = coreIn d in
     let x = getD (s .active) i noClaim in
     let k : i < length (s .active) = omega (arith, row-length (good .active)) in
@@ -98,14 +119,26 @@ raisable d c good g r i h =
     (all-at (λ w. NotNever diskTable w c) (s .active) noClaim i k (g .noNever))
     (all-at (λ w. stays diskTable s c w ≡ true) (s .active) noClaim i k (g .allStay)))
 
--- All active claims so changed are those that the grant of a write raises.
-pub raises : (d : Disk) (c : Claim) → isReading (kindOf diskTable c) ≡ false →
-    withActive d (mapTo (d .actives) (raiseWith (c .method) (c .error + gap diskTable (coreIn d) c)) (d .active)) ≡ raisedOf d c
+-- So it is with what the code has at hand.
+pub raisable : (d : Disk) (c : Claim) → Good d → MayGrant diskTable (coreIn d) c → isReading (kindOf diskTable c) ≡ false → {n raise : ℕ} →
+    n ≡ d .actives → raise ≡ c .error + gap diskTable (coreIn d) c → {cs : List Claim} → cs ≡ d .active → Raisable cs n (c .method) raise
+raisable d c good g r n raise cs = rw (cs, n, raise) (within d c good g r)
+
+-- The first n claims raised by so much, where that is what the grant of a write raises: the disk that it leaves.
+pub raises : (d : Disk) (c : Claim) → isReading (kindOf diskTable c) ≡ false → {n raise : ℕ} → n ≡ d .actives →
+    raise ≡ c .error + gap diskTable (coreIn d) c → {cs new : List Claim} → cs ≡ d .active → new ≡ mapTo n (raiseWith (c .method) raise) cs →
+    withActive d new ≡ raisedOf d c
 unfolding raisedOf
-raises d c r =
-    sym
+raises d c r n raise cs new =
+    rw (new, cs, n, raise)
+    (sym
     (ap (λ (l : List Claim). withActive d (l ++ drop (d .actives) (d .active)))
-    (map-congr-left {l = take (d .actives) (d .active)} (λ x _. raise-of (coreIn d) c x r)))
+    (map-congr-left {l = take (d .actives) (d .active)} (λ x _. raise-of (coreIn d) c x r))))
+
+-- Raising the active claims leaves a good disk.
+pub raised-good : (d : Disk) (c : Claim) → Good d → Good (raisedOf d c)
+unfolding raisedOf
+raised-good d c good = record { active = to-row (raised diskTable (coreIn d) c) (d .active) (d .actives) (good .active); waiting = good .waiting }
 
 -- ---- the grant
 
@@ -179,7 +212,7 @@ module _ (d : Disk) (c : Claim) (good : Good d) (may : MayGrant diskTable (coreI
       let n = d .actives in
       let f = raised diskTable (coreIn d) c in
       let h = grant-place d c good may in
-      let w = store-last (to-row f (d .active) n (good .active)) (putTold c (pos 0) 0) h in
+      let w = store-last (raised-good d c good .active) (putTold c (pos 0) 0) h in
       record {
         good = record { active = w .row; waiting = good .waiting };
         is =

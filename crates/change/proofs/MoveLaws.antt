@@ -1,31 +1,42 @@
--- Laws of the end of a claim on a part: what lands in the figures, word by word, and the disk that is left.
+-- Laws of the end of a claim on a part: what lands in the figures, and the disk that is left.
 use Prim.Native.Nat.{ℕ, _+_, _-_, _^_, _≤_, _<_}
+use mathlib.Core.Bool.{Bool, true, false}
 use mathlib.Core.List.{List}
 use mathlib.Core.Path.{_≡_, refl, sym, ap, _∙_, subst}
 use native.Mathlib.Omega.{arith}
+use borrow.Rule.Slice.PartMut.{putMid}
 use lib.IntN.{ℤ, _+ℤ_}
-use lib.ListN.{take, getD}
+use lib.ListN.{take, drop, getD}
 use lib.Seq.{getD-take}
 use lib.Signed.{mag}
+use Rattle.num.specs.Bits.{shares}
 use Rattle.num.specs.Word.{putWord}
-use Rattle.num.specs.Runs.{splice}
 use Rattle.num.specs.Signed.{wordOf, putSigned}
 use Rattle.law.specs.declared.Attr.{Attr}
 use Rattle.law.specs.declared.Claim.{Claim}
-use Rattle.law.specs.Calls.{queue}
+use Rattle.law.specs.Types.{Attribute, a0, a1, a2, Kind, sets, adds}
+use Rattle.law.specs.Entries.{kindAt}
+use Rattle.law.specs.Calls.{queue, landBy}
 use Rattle.law.specs.DiskType.{diskTable}
+use Rattle.rules.specs.Methods.{maskOf, setMask, addMask}
 use Rattle.rules.specs.Rows.{RowIs, noClaim, removeAt}
 use Rattle.rules.specs.declared.disk.Disk.{Disk}
 use Rattle.rules.specs.Answers.{endedAt, leftAt, waitingOf}
 use Rattle.rules.specs.Disks.{figuresIn, diskOf, Good}
 use Rattle.part.specs.Held.{partFor}
-use Rattle.part.specs.Layout.{slots, headWords, AttrFits, StateFits}
-use Rattle.slots.specs.Slots.{Canonical}
+use Rattle.part.specs.Layout.{usedAt, promisedAt, stateAt, slots, headWords, AttrFits, StateFits}
+use Rattle.slots.specs.Slots.{Slots}
 use Rattle.change.specs.Holding.{Holds, withFigures, landOf}
-use Rattle.change.specs.HoldingLaws.{holds-part, put-active-run, put-waiting-run, put-clock, put-next, put-actives, put-waitings, put-figure}
-use Rattle.change.proofs.ChangeLaws.{land-at, land-none}
+use Rattle.change.specs.HoldingLaws.{holds-part, active-slots, active-back, waiting-slots, waiting-back, put-clock, put-next, put-actives, put-waitings, put-figure, put-figures}
+use Rattle.change.proofs.ChangeLaws.{asked, sets-at, adds-at, land-none}
 
 -- ---- what lands in the figures
+
+-- Where an attribute stands.
+abbrev pub placeOf : Attribute → ℕ
+placeOf a0 = usedAt
+placeOf a1 = promisedAt
+placeOf a2 = stateAt
 
 abbrev with : Attr → ℤ → ℕ → Attr
 with a z n = record { value = z; stamp = n; amount = a .amount; limit = a .limit }
@@ -36,79 +47,67 @@ with-fits f v t = record { value = v; stamp = t; amount = f .amount; limit = f .
 state-with : {a : Attr} {z : ℤ} {n : ℕ} → StateFits a → mag z < 2 ^ 31 → n < 2 ^ 32 → StateFits (with a z n)
 state-with f v t = record { value = v; stamp = t; amount = f .amount; limit = f .limit }
 
-module _ {s : List ℕ} {d : Disk} (h : Holds s d) (w : Claim) (v : mag (w .value) < 2 ^ 31) (t : w .measured < 2 ^ 32) where
-  pub set-used : w .method ≡ 0 → Holds (putWord (putSigned s 16 (w .value)) 20 (w .measured)) (landOf d w)
-  unfolding headWords diskTable
-  set-used m =
-      let f = h .fits in
-      let first : Holds (putSigned s 16 (w .value)) (withFigures d (record { f0 = with (d .used) (w .value) (d .used .stamp); f1 = d .promised; f2 = d .state })) =
-      put-figure h 4 (wordOf (w .value)) (omega arith) refl (with-fits (f .used) v (f .used .stamp)) (f .promised) (f .state) in
-      subst (Holds (putWord (putSigned s 16 (w .value)) 20 (w .measured))) (sym (land-at d w 0 m))
-      (put-figure first 5 (w .measured) (omega arith) refl (with-fits (f .used) v t) (f .promised) (f .state))
+module _ {s : List ℕ} {d : Disk} (h : Holds s d) (w : Claim) where
+  -- It goes by the kind of the method.
+  by-kind : {r : List ℕ} {k : Kind} → kindAt diskTable (w .method) ≡ k → Holds r (withFigures d (landBy (figuresIn d) k w)) → Holds r (landOf d w)
+  unfolding landOf
+  by-kind {r} e = subst (λ (k : Kind). Holds r (withFigures d (landBy (figuresIn d) k w))) (sym e)
 
-  pub set-promised : w .method ≡ 2 → Holds (putWord (putSigned s 32 (w .value)) 36 (w .measured)) (landOf d w)
-  unfolding headWords diskTable
-  set-promised m =
-      let f = h .fits in
-      let first : Holds (putSigned s 32 (w .value)) (withFigures d (record { f0 = d .used; f1 = with (d .promised) (w .value) (d .promised .stamp); f2 = d .state })) =
-      put-figure h 8 (wordOf (w .value)) (omega arith) refl (f .used) (with-fits (f .promised) v (f .promised .stamp)) (f .state) in
-      subst (Holds (putWord (putSigned s 32 (w .value)) 36 (w .measured))) (sym (land-at d w 2 m))
-      (put-figure first 9 (w .measured) (omega arith) refl (f .used) (with-fits (f .promised) v t) (f .state))
+  -- A set stores its value, and its stamp behind it.
+  pub set-lands : (a : Attribute) → mag (w .value) < 2 ^ 31 → w .measured < 2 ^ 32 → {n : ℕ} {b : Bool} → n ≡ setMask (w .method) →
+      b ≡ shares n (maskOf a) → b ≡ true → Holds (putWord (putSigned s (placeOf a) (w .value)) (placeOf a + 4) (w .measured)) (landOf d w)
+  unfolding headWords
+  set-lands a v t m x y = by-kind (sets-at a (w .method) (asked (maskOf a) m x y)) (go a)
+    where
+      go : (a : Attribute) → Holds (putWord (putSigned s (placeOf a) (w .value)) (placeOf a + 4) (w .measured)) (withFigures d (landBy (figuresIn d) (sets a) w))
+      go a0 = put-figures h (with-fits (h .fits .used) v t) (h .fits .promised) (h .fits .state) 4 (wordOf (w .value)) 5 (w .measured) (omega arith) (omega arith) refl
+      go a1 = put-figures h (h .fits .used) (with-fits (h .fits .promised) v t) (h .fits .state) 8 (wordOf (w .value)) 9 (w .measured) (omega arith) (omega arith) refl
+      go a2 = put-figures h (h .fits .used) (h .fits .promised) (state-with (h .fits .state) v t) 12 (wordOf (w .value)) 13 (w .measured) (omega arith) (omega arith) refl
 
-  pub set-state : w .method ≡ 3 → Holds (putWord (putSigned s 48 (w .value)) 52 (w .measured)) (landOf d w)
-  unfolding headWords diskTable
-  set-state m =
-      let f = h .fits in
-      let first : Holds (putSigned s 48 (w .value)) (withFigures d (record { f0 = d .used; f1 = d .promised; f2 = with (d .state) (w .value) (d .state .stamp) })) =
-      put-figure h 12 (wordOf (w .value)) (omega arith) refl (f .used) (f .promised) (state-with (f .state) v (f .state .stamp)) in
-      subst (Holds (putWord (putSigned s 48 (w .value)) 52 (w .measured))) (sym (land-at d w 3 m))
-      (put-figure first 13 (w .measured) (omega arith) refl (f .used) (f .promised) (state-with (f .state) v t))
+  -- An add to promised stores the sum.
+  pub add-lands : {z : ℤ} → mag z < 2 ^ 31 → z ≡ d .promised .value +ℤ w .value → {n : ℕ} {b : Bool} → n ≡ addMask (w .method) →
+      b ≡ shares n 2 → b ≡ true → Holds (putSigned s 32 z) (landOf d w)
+  unfolding headWords
+  add-lands {z} l e m x y =
+      by-kind (adds-at (w .method) (asked 2 m x y))
+      (rw (← e) (put-figure h (h .fits .used) (with-fits (h .fits .promised) l (h .fits .promised .stamp)) (h .fits .state) 8 (wordOf z) (omega arith) refl))
 
-  pub add-promised : w .method ≡ 1 → {z : ℤ} → mag z < 2 ^ 31 → z ≡ d .promised .value +ℤ w .value → Holds (putSigned s 32 z) (landOf d w)
-  unfolding headWords diskTable
-  add-promised m {z} l e =
-      let f = h .fits in
-      let put : Holds (putSigned s 32 z) (withFigures d (record { f0 = d .used; f1 = with (d .promised) z (d .promised .stamp); f2 = d .state })) =
-      put-figure h 8 (wordOf z) (omega arith) refl (f .used) (with-fits (f .promised) l (f .promised .stamp)) (f .state) in
-      subst (Holds (putSigned s 32 z))
-      (ap (λ (y : ℤ). withFigures d (record { f0 = d .used; f1 = with (d .promised) y (d .promised .stamp); f2 = d .state })) e ∙ sym (land-at d w 1 m))
-      put
-
--- A reading leaves them.
-pub land-leaves : {s : List ℕ} {d : Disk} → Holds s d → (w : Claim) → 4 ≤ w .method → Holds s (landOf d w)
-land-leaves {s} {d} h w m =
-    subst (Holds s) (sym (land-at d w (w .method) refl ∙ ap (withFigures d) (land-none (figuresIn d) w (w .method) m))) h
+  -- A reading leaves them.
+  pub none-lands : {n k : ℕ} {used promised state added : Bool} → n ≡ setMask (w .method) → used ≡ shares n 1 → used ≡ false →
+      promised ≡ shares n 2 → promised ≡ false → state ≡ shares n 4 → state ≡ false → k ≡ addMask (w .method) → added ≡ shares k 2 → added ≡ false →
+      Holds s (landOf d w)
+  unfolding landOf
+  none-lands m u u0 p p0 t t0 k q q0 =
+      subst (Holds s) (ap (withFigures d) (sym (land-none (figuresIn d) w (w .method) (asked 1 m u u0) (asked 2 m p p0) (asked 4 m t t0) (asked 2 k q q0)))) h
 
 -- ---- the disk that is left
 
-module _ {s : List ℕ} {d : Disk} (good : Good d) (second at : ℕ) (l : second < 2 ^ 32) where
+module _ {s : List ℕ} {d : Disk} (good : Good d) {second n : ℕ} (l : second < 2 ^ 32) {row : List ℕ} (back : Slots row) where
   -- The active claim at a place ended: what has landed, the other active claims, the second and their number.
-  pub end-part : at < d .actives → d .actives < 2 ^ 32 → Holds s (landOf d (getD (d .active) at noClaim)) → {row : List ℕ} → Canonical row →
-      RowIs (slots 8 row) (d .actives - 1) (removeAt at (take (d .actives) (d .active))) →
-      putWord (putWord (splice s 64 row) 0 second) 8 (d .actives - 1) ≡ partFor (endedAt (diskOf d) second at)
+  pub end-part : n ≡ d .actives → (at : ℕ) → at < d .actives → Holds s (landOf d (getD (d .active) at noClaim)) →
+      RowIs (slots 8 row) (n - 1) (removeAt at (take n (slots 8 (take 352 (drop 64 s))))) →
+      putWord (putWord (putMid 64 352 s row) 0 second) 8 (n - 1) ≡ partFor (endedAt (diskOf d) second at)
   unfolding landOf endedAt
-  end-part here few h {row} kept rest =
-      holds-part (put-actives (put-clock (put-active-run h kept) l) (omega arith))
+  end-part count at here h rest =
+      holds-part (put-actives (put-clock (active-back h back) l) (omega (arith, count, h .fits .actives)))
       (record {
         good = record { active = rest .row; waiting = good .waiting };
-        is = rw (rest .list, getD-take (d .actives) (d .active) at noClaim here);
+        is = rw (rest .list, active-slots h, count, getD-take (d .actives) (d .active) at noClaim here);
       })
 
   -- The waiting claim at a place gone: the others, the second and their number.
-  pub left-part : at < d .waitings → d .waitings < 2 ^ 32 → Holds s d → {row : List ℕ} → Canonical row →
-      RowIs (slots 8 row) (d .waitings - 1) (removeAt at (take (d .waitings) (d .waiting))) →
-      putWord (putWord (splice s 416 row) 0 second) 12 (d .waitings - 1) ≡ partFor (leftAt (diskOf d) second at)
+  pub left-part : n ≡ d .waitings → (at : ℕ) → Holds s d → RowIs (slots 8 row) (n - 1) (removeAt at (take n (slots 8 (take 352 (drop 416 s))))) →
+      putWord (putWord (putMid 416 352 s row) 0 second) 12 (n - 1) ≡ partFor (leftAt (diskOf d) second at)
   unfolding leftAt
-  left-part here few h {row} kept rest =
-      holds-part (put-waitings (put-clock (put-waiting-run h kept) l) (omega arith))
-      (record { good = record { active = good .active; waiting = rest .row }; is = rw (rest .list) })
+  left-part count at h rest =
+      holds-part (put-waitings (put-clock (waiting-back h back) l) (omega (arith, count, h .fits .waitings)))
+      (record { good = record { active = good .active; waiting = rest .row }; is = rw (rest .list, waiting-slots h, count) })
 
--- A claim that waits: all that wait, the second, their number and the next ticket.
-module _ {s : List ℕ} {d : Disk} (good : Good d) (second : ℕ) (c : Claim) (l : second < 2 ^ 32) where
-  pub wait-part : d .waitings < 8 → c .ticket ≤ 999_999 → Holds s d → {row : List ℕ} → Canonical row →
-      RowIs (slots 8 row) (d .waitings + 1) (queue c (take (d .waitings) (d .waiting))) →
-      putWord (putWord (putWord (splice s 416 row) 0 second) 12 (d .waitings + 1)) 4 (c .ticket + 1) ≡ partFor (waitingOf (diskOf d) second c)
+  -- A claim that waits: all that wait, the second, their number and the next ticket.
+  pub wait-part : n ≡ d .waitings → d .waitings < 8 → (c : Claim) → c .ticket ≤ 999_999 → Holds s d →
+      RowIs (slots 8 row) (n + 1) (queue c (take n (slots 8 (take 352 (drop 416 s))))) →
+      putWord (putWord (putWord (putMid 416 352 s row) 0 second) 12 (n + 1)) 4 (c .ticket + 1) ≡ partFor (waitingOf (diskOf d) second c)
   unfolding waitingOf
-  wait-part few ticket h {row} kept rest =
-      holds-part (put-next (put-waitings (put-clock (put-waiting-run h kept) l) (omega arith)) (omega arith))
-      (record { good = record { active = good .active; waiting = rest .row }; is = rw (rest .list) })
+  wait-part count few c ticket h rest =
+      holds-part (put-next (put-waitings (put-clock (waiting-back h back) l) (omega arith)) (omega arith))
+      (record { good = record { active = good .active; waiting = rest .row }; is = rw (rest .list, waiting-slots h, count) })

@@ -1,13 +1,11 @@
--- Laws of eight slots: a claim or an amount put into one of them, what is read from it, what is raised, and the first of a list
--- changed where they stand.
+-- Laws of eight slots: a claim or an amount put into one of them, what is raised, and the first elements of a list changed in place.
 use Prim.Native.Nat.{ℕ, zero, suc, _+_, _*_, _^_, _≤_, _<_}
 use mathlib.Core.List.{List, [], _∷_, _++_, map, append-nil}
 use mathlib.Core.Path.{_≡_, refl, sym, ap, _∙_}
 use native.Mathlib.Numerals.{add-one}
 use native.Mathlib.Omega.{arith}
-use lib.ListN.{length, take, drop, getD, set, length-set}
-use lib.Seq.{getD-take, getD-drop}
-use Rattle.num.specs.Word.{wordAt, putWord, Bytes}
+use lib.ListN.{length, take, getD, set, length-set}
+use Rattle.num.specs.Word.{putWord, Bytes}
 use Rattle.num.specs.Runs.{le4, flat, splice}
 use Rattle.num.specs.RunLaws.{length-le4, put-splice, splice-first, splice-second}
 use Rattle.law.specs.declared.Claim.{Claim}
@@ -15,26 +13,22 @@ use Rattle.law.specs.declared.Entry.{Entry}
 use Rattle.law.specs.declared.Entry.the-variants.{A, N, D, G}
 use Rattle.law.specs.Granting.{putTold}
 use Rattle.rules.specs.Rows.{noClaim, Row}
-use Rattle.part.specs.Layout.{claimIn, claimWords, slots, inSlots, ClaimFits, ClaimsFit}
-use Rattle.part.specs.SlotLaws.{length-slots, length-slot, slots-back, slots-fit, slot-at, put-in-slot}
-use Rattle.slots.specs.Slots.{Canonical, raiseBy, mapTo}
+use Rattle.part.specs.Layout.{claimWords, slots, inSlots, ClaimFits, ClaimsFit}
+use Rattle.part.specs.SlotLaws.{length-slots, length-slot, length-in-slots, slots-back, slots-fit, put-in-slot}
+use Rattle.slots.specs.Slots.{Slots, raiseBy, mapTo}
 
 -- The bytes of eight claims that have a place hold them.
-pub slots-in : (cs : List Claim) → ClaimsFit cs → slots 8 (inSlots cs) ≡ cs
+slots-in : (cs : List Claim) → ClaimsFit cs → slots 8 (inSlots cs) ≡ cs
 slots-in cs f =
     ap (slots 8) (sym (append-nil (inSlots cs)))
     ∙ ap (λ (k : ℕ). slots k (inSlots cs ++ [])) (sym (f .room))
     ∙ slots-back cs [] (f .each)
 
-pub kept-in : (cs : List Claim) → ClaimsFit cs → Canonical (inSlots cs)
-kept-in cs f = ap inSlots (slots-in cs f)
-
--- So do bytes that are theirs.
-pub put-slots : (r : List ℕ) (cs : List Claim) → ClaimsFit cs → r ≡ inSlots cs → slots 8 r ≡ cs
-put-slots r cs f e = ap (slots 8) e ∙ slots-in cs f
-
-pub put-kept : (r : List ℕ) (cs : List Claim) → ClaimsFit cs → r ≡ inSlots cs → Canonical r
-put-kept r cs f e = ap (λ (s : List ℕ). inSlots (slots 8 s)) e ∙ kept-in cs f ∙ sym e
+pub put-in : {row : List ℕ} {cs : List Claim} → ClaimsFit cs → row ≡ inSlots cs → Slots row × (slots 8 row ≡ cs)
+put-in {row} {cs} f e =
+    let read : slots 8 row ≡ cs = ap (slots 8) e ∙ slots-in cs f in
+    let long : length row ≡ 352 = omega (arith, ap length e, length-in-slots cs, f .room) in
+    (record { long = long; canonical = ap inSlots read ∙ sym e }, read)
 
 -- ---- what has a place
 
@@ -68,10 +62,10 @@ amount-fits c x f h =
 
 -- ---- what is put
 
-pub put-claim-in : (row : List ℕ) → Canonical row → (i : ℕ) (c : Claim) → i < 8 →
+pub put-claim-in : (row : List ℕ) → Slots row → (i : ℕ) (c : Claim) → i < 8 →
     splice row (44 * i) (flat (claimWords c)) ≡ inSlots (set (slots 8 row) i c)
-put-claim-in row kept i c h =
-    ap (λ (r : List ℕ). splice r (44 * i) (flat (claimWords c))) (sym kept)
+put-claim-in row eight i c h =
+    ap (λ (r : List ℕ). splice r (44 * i) (flat (claimWords c))) (sym (eight .canonical))
     ∙ put-in-slot (slots 8 row) i c (omega (arith, length-slots 8 row))
 
 -- The ninth word of a slot is the amount.
@@ -92,35 +86,13 @@ amount-slot (c ∷ cs) (suc i) x h =
     ∙ splice-second (flat (claimWords c)) (inSlots cs) (44 * i + 32) (le4 x)
     ∙ ap (λ (r : List ℕ). flat (claimWords c) ++ r) (amount-slot cs i x (omega arith))
 
-pub put-amount-in : (row : List ℕ) → Canonical row → (i x : ℕ) → i < 8 →
+pub put-amount-in : (row : List ℕ) → Slots row → (i x : ℕ) → i < 8 →
     putWord row (44 * i + 32) x
     ≡ inSlots (set (slots 8 row) i (putTold (getD (slots 8 row) i noClaim) (getD (slots 8 row) i noClaim .told) x))
-put-amount-in row kept i x h =
+put-amount-in row eight i x h =
     put-splice row (44 * i + 32) x
-    ∙ ap (λ (r : List ℕ). splice r (44 * i + 32) (le4 x)) (sym kept)
+    ∙ ap (λ (r : List ℕ). splice r (44 * i + 32) (le4 x)) (sym (eight .canonical))
     ∙ amount-slot (slots 8 row) i x (omega (arith, length-slots 8 row))
-
--- ---- what is read
-
--- The first word of a slot is the ticket.
-pub ticket-at : (row : List ℕ) (i : ℕ) → i < 8 → wordAt row (44 * i) ≡ getD (slots 8 row) i noClaim .ticket
-unfolding claimIn wordAt
-ticket-at row i h =
-    let s = drop (44 * i) row in
-    let e : 44 * i + 0 ≡ 44 * i = omega arith in
-    sym
-    (ap (λ (c : Claim). c .ticket) (slot-at 8 row i h)
-    ∙ rw (
-      getD-take 44 s 0 0 (omega arith),
-      getD-take 44 s 1 0 (omega arith),
-      getD-take 44 s 2 0 (omega arith),
-      getD-take 44 s 3 0 (omega arith),
-      getD-drop (44 * i) row 0 0,
-      getD-drop (44 * i) row 1 0,
-      getD-drop (44 * i) row 2 0,
-      getD-drop (44 * i) row 3 0,
-      e,
-    ))
 
 -- ---- what is raised
 

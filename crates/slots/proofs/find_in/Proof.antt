@@ -1,15 +1,15 @@
 -- The place in what is left, counted from the front, is the place in the list.
-use Prim.Native.Nat.{_+_, _-_, _≤_, _<_}
-use mathlib.Core.Path.{_≡_, sym, _∙_}
+use Prim.Native.Nat.{_+_, _-_, _≤_}
+use mathlib.Core.Path.{_≡_, sym, ap, _∙_}
 use native.Mathlib.Omega.{arith}
-use lib.ListN.{take, drop, getD}
+use lib.ListN.{take, drop}
 use borrow.Author.Tests.{eq-eqb, ne-eqb}
 use borrow.Author.Needs.{needs}
+use Rattle.law.specs.declared.Claim.{Claim}
 use Rattle.law.specs.Calls.{hasTicket}
-use Rattle.rules.specs.Rows.{noClaim, placeOf}
+use Rattle.rules.specs.Rows.{placeOf}
 use Rattle.rules.specs.RowLaws.{first-here, first-on, first-end}
 use Rattle.part.specs.Layout.{slots}
-use Rattle.slots.specs.SlotsLaws.{ticket-at}
 use Rattle.slots.proofs.find_in.Statement.{statement}
 use Rattle.slots.proofs.find_in.Tie as tie
 
@@ -19,30 +19,18 @@ Inv-loop row n ticket i₀ i = (i ≤ n) × (i + placeOf ticket (drop i (take n 
 abbrev μ-loop : tie.MeasureT-loop
 μ-loop row n ticket i₀ i = n - i
 
--- The word that is read is the ticket.
-read : (c : tie.After-word-at Inv-loop μ-loop) →
-    let s = c .before .before in c .word-at .result ≡ getD (slots 8 (s .before .before .args .row .now)) (s .loop .i) noClaim .ticket
-read c =
-    let s = c .before .before in
-    let z = s .before .before in
-    let h : s .loop .i < z .args .n = c .before .loop-test .taken in
-    c .word-at .ensures ∙ ticket-at (z .args .row .now) (s .loop .i) (omega (arith, z .pre .1 .few))
-
 loop-holds : tie.Need-loop-holds Inv-loop μ-loop
 loop-holds c = (omega arith, omega arith)
 
-mul-word-at : tie.Need-mul-word-at Inv-loop μ-loop
-mul-word-at c = search needs
-
-word-at-requires : tie.Need-word-at-requires Inv-loop μ-loop
-word-at-requires c κs = search needs
+slot-at-requires : tie.Need-slot-at-requires Inv-loop μ-loop
+slot-at-requires c κs = search needs
 
 returns : tie.Need-returns Inv-loop μ-loop
 returns c =
-    let s = c .before .before .before in
-    let z = s .before .before in
-    let h = c .before .before .loop-test .taken in
-    (first-here (z .pre .1) (hasTicket _) (s .loop .i) h (eq-eqb _ _ (sym (read (c .before)) ∙ c .if1 .taken)) ∙ s .loop .inv .1, omega arith)
+    let k = c .before .before in
+    let s = k .before .before in
+    let read = ap (λ (w : Claim). w .ticket) (k .slot-at .ensures) in
+    (first-here (s .before .before .pre .1) (hasTicket _) (s .loop .i) (k .before .loop-test .taken) (eq-eqb _ _ (sym read ∙ c .if1 .taken)) ∙ s .loop .inv .1, omega arith)
 
 add-i : tie.Need-add-i Inv-loop μ-loop
 add-i c = search needs
@@ -52,10 +40,10 @@ loop-less c = search needs
 
 loop-again : tie.Need-loop-again Inv-loop μ-loop
 loop-again c =
-    let s = c .before .before .before in
-    let z = s .before .before in
-    let h = c .before .before .loop-test .taken in
-    (omega arith, first-on (z .pre .1) (hasTicket _) (s .loop .i) h (ne-eqb _ _ (λ e. c .if1 .left (read (c .before) ∙ e))) ∙ s .loop .inv .1)
+    let k = c .before .before in
+    let s = k .before .before in
+    let read = ap (λ (w : Claim). w .ticket) (k .slot-at .ensures) in
+    (omega arith, first-on (s .before .before .pre .1) (hasTicket _) (s .loop .i) (k .before .loop-test .taken) (ne-eqb _ _ (λ e. c .if1 .left (read ∙ e))) ∙ s .loop .inv .1)
 
 returns-2 : tie.Need-returns-2 Inv-loop μ-loop
 returns-2 c =
@@ -69,8 +57,7 @@ find-in-spec =
     Inv-loop
     μ-loop
     loop-holds
-    mul-word-at
-    word-at-requires
+    slot-at-requires
     returns
     add-i
     loop-less

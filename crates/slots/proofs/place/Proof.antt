@@ -1,7 +1,7 @@
 -- The place in what is left, counted from the front, is the place in the list.
-use Prim.Native.Nat.{_+_, _-_, _≤_, _<_}
+use Prim.Native.Nat.{_+_, _-_, _≤_}
 use mathlib.Core.Bool.{not}
-use mathlib.Core.Path.{_≡_, sym, ap, _∙_}
+use mathlib.Core.Path.{_≡_, ap, _∙_}
 use native.Mathlib.Omega.{arith}
 use lib.ListN.{take, drop, getD}
 use borrow.Author.Needs.{needs}
@@ -9,7 +9,6 @@ use Rattle.law.specs.Calls.{before}
 use Rattle.rules.specs.Rows.{noClaim, firstOf}
 use Rattle.rules.specs.RowLaws.{first-here, first-on, first-end}
 use Rattle.part.specs.Layout.{slots}
-use Rattle.part.specs.SlotLaws.{slot-at}
 use Rattle.slots.proofs.place.Statement.{statement}
 use Rattle.slots.proofs.place.Tie as tie
 
@@ -25,21 +24,13 @@ asked : (c : tie.After-before2 Inv-loop μ-loop) →
     let s = c .before .before .before in
     let a = s .before .before .args in
     not (before (getD (slots 8 (a .row .now)) (s .loop .i) noClaim) (a .c)) ≡ not (c .before2 .result)
-asked c =
-    let s = c .before .before .before in
-    let z = s .before .before in
-    let h : s .loop .i < z .args .n = c .before .before .loop-test .taken in
-    let e = slot-at 8 (z .args .row .now) (s .loop .i) (omega (arith, z .pre .1 .few)) in
-    ap (λ w. not (before w (z .args .c))) (e ∙ sym (c .before .claim-at .ensures)) ∙ ap not (sym (c .before2 .ensures))
+asked c = rw (c .before2 .ensures, c .before .slot-at .ensures)
 
 loop-holds : tie.Need-loop-holds Inv-loop μ-loop
 loop-holds c = (omega arith, omega arith)
 
-mul-claim-at : tie.Need-mul-claim-at Inv-loop μ-loop
-mul-claim-at c = search needs
-
-claim-at-requires : tie.Need-claim-at-requires Inv-loop μ-loop
-claim-at-requires c κs = search needs
+slot-at-requires : tie.Need-slot-at-requires Inv-loop μ-loop
+slot-at-requires c κs = search needs
 
 before-requires : tie.Need-before-requires Inv-loop μ-loop
 before-requires c κs = search needs
@@ -52,17 +43,15 @@ loop-less c = search needs
 
 loop-again : tie.Need-loop-again Inv-loop μ-loop
 loop-again c =
-    let s = c .before .before .before .before in
-    let z = s .before .before in
-    let h = c .before .before .before .loop-test .taken in
-    (omega arith, first-on (z .pre .1) _ (s .loop .i) h (asked (c .before) ∙ ap not (c .if1 .taken)) ∙ s .loop .inv .1)
+    let l = c .before .before .before in
+    let s = l .before in
+    (omega arith, first-on (s .before .before .pre .1) _ (s .loop .i) (l .loop-test .taken) (asked (c .before) ∙ ap not (c .if1 .taken)) ∙ s .loop .inv .1)
 
 returns : tie.Need-returns Inv-loop μ-loop
 returns c =
-    let s = c .before .before .before .before in
-    let z = s .before .before in
-    let h = c .before .before .before .loop-test .taken in
-    (first-here (z .pre .1) _ (s .loop .i) h (asked (c .before) ∙ ap not (c .if1 .left)) ∙ s .loop .inv .1, omega arith)
+    let l = c .before .before .before in
+    let s = l .before in
+    (first-here (s .before .before .pre .1) _ (s .loop .i) (l .loop-test .taken) (asked (c .before) ∙ ap not (c .if1 .left)) ∙ s .loop .inv .1, omega arith)
 
 returns-2 : tie.Need-returns-2 Inv-loop μ-loop
 returns-2 c =
@@ -76,8 +65,7 @@ place-spec =
     Inv-loop
     μ-loop
     loop-holds
-    mul-claim-at
-    claim-at-requires
+    slot-at-requires
     before-requires
     add-i
     loop-less

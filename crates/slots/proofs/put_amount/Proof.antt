@@ -7,7 +7,7 @@ use Rattle.num.specs.Word.{Bytes}
 use Rattle.rules.specs.Rows.{noClaim}
 use Rattle.part.specs.Layout.{slots}
 use Rattle.part.specs.SlotLaws.{slots-fit}
-use Rattle.slots.specs.SlotsLaws.{set-fits, amount-fits, put-amount-in, put-kept, put-slots}
+use Rattle.slots.specs.SlotsLaws.{set-fits, amount-fits, put-amount-in, put-in}
 use Rattle.slots.proofs.put_amount.Statement.{statement}
 use Rattle.slots.proofs.put_amount.Tie as tie
 
@@ -34,8 +34,7 @@ returns c =
     let row = a .row .now in
     let bytes : Bytes row = λ i. k .slice-known .given i .fits in
     let f = set-fits row bytes (a .i) _ (amount-fits (getD (slots 8 row) (a .i) noClaim) (a .amount) (slots-fit 8 row bytes (a .i)) (fits s)) in
-    let e = c .before .before .put-word .ensures ∙ put-amount-in row (s .pre .1 .0) (a .i) (a .amount) (s .pre .1 .1) in
-    (put-kept _ _ f e, put-slots _ _ f e)
+    put-in f (c .before .before .put-word .ensures ∙ put-amount-in row (s .pre .0) (a .i) (a .amount) (s .pre .1))
 
 pub put-amount-spec : {M : Type 1} → statement M
 put-amount-spec =

@@ -2,7 +2,7 @@
 use mathlib.Core.Path.{_∙_}
 use borrow.Author.Needs.{needs}
 use Rattle.part.specs.Layout.{ClaimFits}
-use Rattle.slots.specs.SlotsLaws.{set-fits, put-claim-in, put-kept, put-slots}
+use Rattle.slots.specs.SlotsLaws.{set-fits, put-claim-in, put-in}
 use Rattle.slots.proofs.put_slot.Statement.{statement}
 use Rattle.slots.proofs.put_slot.Tie as tie
 
@@ -33,10 +33,8 @@ returns : tie.Need-returns
 returns c =
     let s = c .before .before .before .before .before in
     let a = s .args in
-    let row = a .row .now in
-    let f = set-fits row (λ i. c .before .before .before .before .slice-known .given i .fits) (a .i) (a .c) (fits s) in
-    let e = c .before .before .put-claim .ensures ∙ put-claim-in row (s .pre .1 .0) (a .i) (a .c) (s .pre .1 .1) in
-    (put-kept _ _ f e, put-slots _ _ f e)
+    put-in (set-fits (a .row .now) (λ i. c .before .before .before .before .slice-known .given i .fits) (a .i) (a .c) (fits s))
+    (c .before .before .put-claim .ensures ∙ put-claim-in (a .row .now) (s .pre .0) (a .i) (a .c) (s .pre .1))
 
 pub put-slot-spec : {M : Type 1} → statement M
 put-slot-spec = tie.close (tie.spec mul-put-claim put-claim-requires same-length returns)

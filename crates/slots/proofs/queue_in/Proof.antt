@@ -1,9 +1,8 @@
 -- Putting y in at i of what stands now is putting c in at its place in what stood; at the end that is a store.
 use Prim.Native.Nat.{ℕ, _+_, _-_, _≤_, _<_}
-use mathlib.Core.List.{List}
-use mathlib.Core.Path.{_≡_, refl, sym, ap, subst, _∙_}
+use mathlib.Core.Path.{_≡_, sym, ap, _∙_}
 use native.Mathlib.Omega.{arith}
-use lib.ListN.{length, take, set}
+use lib.ListN.{take, set}
 use borrow.Author.Needs.{needs}
 use Rattle.law.specs.declared.Claim.{Claim}
 use Rattle.law.specs.Calls.{queue}
@@ -11,18 +10,13 @@ use Rattle.rules.specs.Rows.{Row, insertAt}
 use Rattle.rules.specs.PlaceLaws.{queue-place}
 use Rattle.rules.specs.RowLaws.{store-row, store-last, insert-turn, insert-end}
 use Rattle.part.specs.Layout.{slots}
-use Rattle.part.specs.SlotLaws.{slot-at}
-use Rattle.slots.specs.Slots.{Canonical}
+use Rattle.slots.specs.Slots.{Slots}
 use Rattle.slots.proofs.queue_in.Statement.{statement}
 use Rattle.slots.proofs.queue_in.Tie as tie
 
 abbrev Inv-loop : tie.InvT-loop
 Inv-loop row₀ n y₀ i₀ row y i =
-    (i ≤ n)
-    × (length row ≡ length row₀)
-    × Canonical row
-    × Row (slots 8 row) n
-    × (insertAt i y (take n (slots 8 row)) ≡ queue y₀ (take n (slots 8 row₀)))
+    (i ≤ n) × Slots row × Row (slots 8 row) n × (insertAt i y (take n (slots 8 row)) ≡ queue y₀ (take n (slots 8 row₀)))
 
 abbrev μ-loop : tie.MeasureT-loop
 μ-loop row₀ n y₀ i₀ row y i = n - i
@@ -34,25 +28,15 @@ loop-holds : tie.Need-loop-holds Inv-loop μ-loop
 loop-holds c =
     let s = c .before .before .before in
     let a = s .args in
-    let cs = take (a .n) (slots 8 (a .row .now)) in (
-      c .place .ensures .1,
-      refl,
-      s .pre .1 .0,
-      s .pre .1 .1 .0,
-      ap (λ (k : ℕ). insertAt k (a .c) cs) (c .place .ensures .0) ∙ sym (queue-place (a .c) cs),
-    )
+    let cs = take (a .n) (slots 8 (a .row .now)) in
+    let here = ap (λ (k : ℕ). insertAt k (a .c) cs) (c .place .ensures .0) ∙ sym (queue-place (a .c) cs) in
+    (c .place .ensures .1, s .pre .0, s .pre .1 .0, here)
 
-mul-claim-at : tie.Need-mul-claim-at Inv-loop μ-loop
-mul-claim-at c = search needs
-
-claim-at-requires : tie.Need-claim-at-requires Inv-loop μ-loop
-claim-at-requires c κs = search needs
+slot-at-requires : tie.Need-slot-at-requires Inv-loop μ-loop
+slot-at-requires c κs = search needs
 
 put-slot-requires : tie.Need-put-slot-requires Inv-loop μ-loop
-put-slot-requires c κs =
-    let l = c .before .before .before .before in
-    let s = l .before .before .before .before in
-    (l .loop .inv .1 ∙ s .pre .0, (l .loop .inv .2, omega (arith, s .pre .1 .1 .1, c .before .before .before .loop-test .taken)))
+put-slot-requires c κs = search needs
 
 add-i : tie.Need-add-i Inv-loop μ-loop
 add-i c = search needs
@@ -68,18 +52,12 @@ loop-again c =
     let n = l .before .before .before .before .args .n in
     let i = l .loop .i in
     let h : i < n = k .before .before .loop-test .taken in
-    let r = l .loop .inv .3 in
-    let e = p .put-slot .ensures .1 in
-    let x = k .claim-at .ensures ∙ sym (slot-at 8 (l .loop .row) i (omega (arith, r .few))) in (
-      omega arith,
-      omega arith,
-      p .put-slot .ensures .0,
-      subst (λ (cs : List Claim). Row cs n) (sym e) (store-row r i _ h),
-      ap (λ (cs : List Claim). insertAt (i + 1) (k .claim-at .result) (take n cs)) e
-          ∙ ap (λ (y : Claim). insertAt (i + 1) y (take n (set (slots 8 (l .loop .row)) i (l .loop .y)))) x
-          ∙ insert-turn r i (l .loop .y) h
-          ∙ l .loop .inv .4,
-    )
+    let r = l .loop .inv .2 in
+    let turn =
+    ap (λ (y : Claim). insertAt (i + 1) y (take n (set (slots 8 (l .loop .row)) i (l .loop .y)))) (k .slot-at .ensures)
+    ∙ insert-turn r i (l .loop .y) h
+    ∙ l .loop .inv .3 in
+    (omega arith, p .put-slot .ensures .0, rw (p .put-slot .ensures .1) (store-row r i _ h), rw (p .put-slot .ensures .1) turn)
 
 put-slot-requires-2 : tie.Need-put-slot-requires-2 Inv-loop μ-loop
 put-slot-requires-2 c κs = search needs
@@ -92,17 +70,10 @@ returns c =
     let p = c .before .before in
     let l = p .before .before .before in
     let s = l .before .before .before .before in
-    let n = s .args .n in
-    let r = l .loop .inv .3 in
-    let e = p .put-slot2 .ensures .1 in
-    let w = store-last r (l .loop .y) (s .pre .1 .1 .1) in (
-      p .put-slot2 .ensures .0,
-      record {
-        row = subst (λ (cs : List Claim). Row cs (n + 1)) (sym e) (w .row);
-        list =
-            ap (take (n + 1)) e ∙ w .list ∙ sym (insert-end r (l .loop .i) (l .loop .y) (omega arith)) ∙ l .loop .inv .4;
-      },
-    )
+    let r = l .loop .inv .2 in
+    let w = store-last r (l .loop .y) (s .pre .1 .1) in
+    let same = sym (insert-end r (l .loop .i) (l .loop .y) (omega arith)) ∙ l .loop .inv .3 in
+    (p .put-slot2 .ensures .0, rw (p .put-slot2 .ensures .1) (record { row = w .row; list = w .list ∙ same }))
 
 pub queue-in-spec : {M : Type 1} → statement M
 queue-in-spec =
@@ -112,8 +83,7 @@ queue-in-spec =
     μ-loop
     place-requires
     loop-holds
-    mul-claim-at
-    claim-at-requires
+    slot-at-requires
     put-slot-requires
     add-i
     loop-less

@@ -2,7 +2,7 @@
 use Prim.Native.Nat.{ℕ, _-_, _≤_, _<_}
 use mathlib.Core.Bool.{false}
 use mathlib.Core.List.{List}
-use mathlib.Core.Path.{_≡_, refl, sym, ap, _∙_}
+use mathlib.Core.Path.{_≡_, refl, ap, _∙_}
 use native.Mathlib.Omega.{arith}
 use lib.ListN.{length, getD, set}
 use borrow.Author.Needs.{needs}
@@ -15,39 +15,27 @@ use Rattle.rules.specs.Rows.{noClaim}
 use Rattle.rules.specs.Pairs.{letsBy}
 use Rattle.rules.proofs.EntryLaws.{found-at}
 use Rattle.part.specs.Layout.{slots}
-use Rattle.part.specs.SlotLaws.{length-slots, slot-at}
-use Rattle.slots.specs.Slots.{Canonical, mapTo, raiseWith, raiseBy}
+use Rattle.part.specs.SlotLaws.{length-slots}
+use Rattle.slots.specs.Slots.{Slots, mapTo, raiseWith, raiseBy}
 use Rattle.slots.specs.SlotsLaws.{raise-amount, to-back, to-step}
 use Rattle.slots.proofs.raise_all.Statement.{statement}
 use Rattle.slots.proofs.raise_all.Tie as tie
 
 abbrev Inv-loop : tie.InvT-loop
 Inv-loop row₀ n m raise table col i₀ row i =
-    (i ≤ n) × (length row ≡ length row₀) × Canonical row × (slots 8 row ≡ mapTo i (raiseWith m raise) (slots 8 row₀))
+    (i ≤ n) × Slots row × (slots 8 row ≡ mapTo i (raiseWith m raise) (slots 8 row₀))
 
 abbrev μ-loop : tie.MeasureT-loop
 μ-loop row₀ n m raise table col i₀ row i = n - i
-
--- The claim that is read is the one that stands there.
-read : (c : tie.After-claim-at Inv-loop μ-loop) →
-    let l = c .before .before .before in c .claim-at .result ≡ getD (slots 8 (l .loop .row)) (l .loop .i) noClaim
-read c =
-    let l = c .before .before .before in
-    let s = l .before .before .before in
-    let h : l .loop .i < s .args .n = c .before .before .loop-test .taken in
-    c .claim-at .ensures ∙ sym (slot-at 8 (l .loop .row) (l .loop .i) (omega (arith, s .pre .1 .1 .0)))
 
 index-of-requires : tie.Need-index-of-requires Inv-loop μ-loop
 index-of-requires c κs = tt
 
 loop-holds : tie.Need-loop-holds Inv-loop μ-loop
-loop-holds c = (omega arith, refl, c .before .before .pre .1 .0, refl)
+loop-holds c = (omega arith, c .before .before .pre .0, refl)
 
-mul-claim-at : tie.Need-mul-claim-at Inv-loop μ-loop
-mul-claim-at c = search needs
-
-claim-at-requires : tie.Need-claim-at-requires Inv-loop μ-loop
-claim-at-requires c κs = search needs
+slot-at-requires : tie.Need-slot-at-requires Inv-loop μ-loop
+slot-at-requires c κs = search needs
 
 index-of-requires-2 : tie.Need-index-of-requires-2 Inv-loop μ-loop
 index-of-requires-2 c κs = tt
@@ -66,7 +54,7 @@ unfolding diskEntries
 entry-requires c κs =
     let k = c .before .before in
     let z = k .before .before .before .before .before in
-    found-at (k .before .claim-at .result .method) (z .before .before .args .m)
+    found-at (k .before .slot-at .result .method) (z .before .before .args .m)
     (k .index-of2 .result) (z .index-of .result) (k .index-of2 .ensures .0) (z .index-of .ensures .0)
 
 raised-requires : tie.Need-raised-requires Inv-loop μ-loop
@@ -76,20 +64,17 @@ raised-requires c κs =
     let s = l .before .before .before in
     let a = s .args in
     let i = l .loop .i in
-    let x = k .claim-at .result in
+    let x = k .slot-at .result in
     let q =
-    read k
-    ∙ ap (λ (cs : List Claim). getD cs i noClaim) (l .loop .inv .3)
+    k .slot-at .ensures
+    ∙ ap (λ (cs : List Claim). getD cs i noClaim) (l .loop .inv .2)
     ∙ to-back (raiseWith (a .m) (a .raise)) (slots 8 (a .row .now)) i i noClaim (omega arith) in
     ap (λ (e : Entry). letsBy e false (x .amount) (x .error) (a .raise)) (c .entry .ensures)
     ∙ ap (λ (w : Claim). letsBy (entryBy (kindOf diskTable w) (kindAt diskTable (a .m))) false (w .amount) (w .error) (a .raise)) q
-    ∙ s .pre .1 .1 .1 i (k .before .before .loop-test .taken)
+    ∙ s .pre .1 .1 i (k .before .before .loop-test .taken)
 
 put-amount-requires : tie.Need-put-amount-requires Inv-loop μ-loop
-put-amount-requires c κs =
-    let l = c .before .before .before .before .before .before .before .before in
-    let s = l .before .before .before in
-    (l .loop .inv .1 ∙ s .pre .0, (l .loop .inv .2, omega (arith, s .pre .1 .1 .0, c .before .before .before .before .before .before .before .loop-test .taken)))
+put-amount-requires c κs = search needs
 
 add-i : tie.Need-add-i Inv-loop μ-loop
 add-i c = search needs
@@ -111,16 +96,15 @@ loop-again c =
     let x = getD old i noClaim in
     let amount =
     p .before .raised .ensures
-    ∙ ap (λ (e : Entry). raiseBy (k .claim-at .result) e (a .raise) .amount) (p .before .before .entry .ensures)
-    ∙ ap (λ (w : Claim). f w .amount) (read k) in
-    let h : i < length cs = omega (arith, length-slots 8 (a .row .now), s .pre .1 .1 .0, k .before .before .loop-test .taken) in (
-      omega arith,
+    ∙ ap (λ (e : Entry). raiseBy (k .slot-at .result) e (a .raise) .amount) (p .before .before .entry .ensures)
+    ∙ ap (λ (w : Claim). f w .amount) (k .slot-at .ensures) in
+    let h : i < length cs = omega (arith, length-slots 8 (a .row .now), s .pre .1 .0, k .before .before .loop-test .taken) in (
       omega arith,
       p .put-amount .ensures .0,
       p .put-amount .ensures .1
           ∙ ap (λ (y : ℕ). set old i (putTold x (x .told) y)) amount
           ∙ ap (λ (y : Claim). set old i y) (raise-amount x (entryBy (kindOf diskTable x) (kindAt diskTable (a .m))) (a .raise))
-          ∙ ap (λ (l : List Claim). set l i (f (getD l i noClaim))) (l .loop .inv .3)
+          ∙ ap (λ (l : List Claim). set l i (f (getD l i noClaim))) (l .loop .inv .2)
           ∙ to-step f cs i noClaim h,
     )
 
@@ -132,7 +116,7 @@ returns c =
     let l = c .before in
     let a = l .before .before .before .args in
     let q : l .loop .i ≡ a .n = omega arith in
-    (l .loop .inv .2, l .loop .inv .3 ∙ ap (λ (k : ℕ). mapTo k (raiseWith (a .m) (a .raise)) (slots 8 (a .row .now))) q)
+    (l .loop .inv .1, l .loop .inv .2 ∙ ap (λ (k : ℕ). mapTo k (raiseWith (a .m) (a .raise)) (slots 8 (a .row .now))) q)
 
 pub raise-all-spec : {M : Type 1} → statement M
 raise-all-spec =
@@ -142,8 +126,7 @@ raise-all-spec =
     μ-loop
     index-of-requires
     loop-holds
-    mul-claim-at
-    claim-at-requires
+    slot-at-requires
     index-of-requires-2
     mul-found
     index-1-found

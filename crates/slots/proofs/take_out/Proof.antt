@@ -1,26 +1,21 @@
 -- Taking one out at i of what stands now is taking it out at `at` of what stood; at the last place that is a clearing.
 use Prim.Native.Nat.{ℕ, _+_, _-_, _≤_, _<_}
 use mathlib.Core.List.{List}
-use mathlib.Core.Path.{_≡_, refl, sym, ap, subst, _∙_}
+use mathlib.Core.Path.{_≡_, refl, sym, ap, _∙_}
 use native.Mathlib.Omega.{arith}
-use lib.ListN.{length, take, set}
+use lib.ListN.{take, set}
 use borrow.Author.Needs.{needs}
 use Rattle.law.specs.declared.Claim.{Claim}
 use Rattle.rules.specs.Rows.{Row, removeAt}
 use Rattle.rules.specs.RowLaws.{store-row, remove-turn, remove-end, clear-last}
 use Rattle.part.specs.Layout.{slots}
-use Rattle.part.specs.SlotLaws.{slot-at}
-use Rattle.slots.specs.Slots.{Canonical}
+use Rattle.slots.specs.Slots.{Slots}
 use Rattle.slots.proofs.take_out.Statement.{statement}
 use Rattle.slots.proofs.take_out.Tie as tie
 
 abbrev Inv-loop : tie.InvT-loop
 Inv-loop row₀ n at last i₀ row i =
-    (i ≤ last)
-    × (length row ≡ length row₀)
-    × Canonical row
-    × Row (slots 8 row) n
-    × (removeAt i (take n (slots 8 row)) ≡ removeAt at (take n (slots 8 row₀)))
+    (i ≤ last) × Slots row × Row (slots 8 row) n × (removeAt i (take n (slots 8 row)) ≡ removeAt at (take n (slots 8 row₀)))
 
 abbrev μ-loop : tie.MeasureT-loop
 μ-loop row₀ n at last i₀ row i = last - i
@@ -31,22 +26,16 @@ sub-last c = search needs
 loop-holds : tie.Need-loop-holds Inv-loop μ-loop
 loop-holds c =
     let s = c .before in
-    (omega arith, refl, s .pre .1 .0, s .pre .1 .1 .0, refl)
+    (omega arith, s .pre .0, s .pre .1 .0, refl)
 
-add-claim-at : tie.Need-add-claim-at Inv-loop μ-loop
-add-claim-at c = search needs
+add-slot-at : tie.Need-add-slot-at Inv-loop μ-loop
+add-slot-at c = search needs
 
-mul-claim-at : tie.Need-mul-claim-at Inv-loop μ-loop
-mul-claim-at c = search needs
-
-claim-at-requires : tie.Need-claim-at-requires Inv-loop μ-loop
-claim-at-requires c κs = search needs
+slot-at-requires : tie.Need-slot-at-requires Inv-loop μ-loop
+slot-at-requires c κs = search needs
 
 put-slot-requires : tie.Need-put-slot-requires Inv-loop μ-loop
-put-slot-requires c κs =
-    let l = c .before .before .before .before in
-    let s = l .before .before in
-    (l .loop .inv .1 ∙ s .pre .0, (l .loop .inv .2, omega (arith, l .loop .inv .3 .few, c .before .before .before .loop-test .taken)))
+put-slot-requires c κs = search needs
 
 add-i : tie.Need-add-i Inv-loop μ-loop
 add-i c = search needs
@@ -62,25 +51,15 @@ loop-again c =
     let n = l .before .before .args .n in
     let i = l .loop .i in
     let h : i < n - 1 = k .before .before .loop-test .taken in
-    let r = l .loop .inv .3 in
-    let old = slots 8 (l .loop .row) in
-    let x = k .claim-at .ensures ∙ sym (slot-at 8 (l .loop .row) (i + 1) (omega (arith, r .few))) in
-    let e = p .put-slot .ensures .1 ∙ ap (λ (y : Claim). set old i y) x in (
-      omega arith,
-      omega arith,
-      p .put-slot .ensures .0,
-      subst (λ (cs : List Claim). Row cs n) (sym e) (store-row r i _ (omega arith)),
-      ap (λ (cs : List Claim). removeAt (i + 1) (take n cs)) e ∙ remove-turn r i (omega arith) ∙ l .loop .inv .4,
-    )
+    let r = l .loop .inv .2 in
+    let e = p .put-slot .ensures .1 ∙ ap (set (slots 8 (l .loop .row)) i) (k .slot-at .ensures) in
+    (omega arith, p .put-slot .ensures .0, rw e (store-row r i _ (omega arith)), rw e (remove-turn r i (omega arith) ∙ l .loop .inv .3))
 
 no-claim-requires : tie.Need-no-claim-requires Inv-loop μ-loop
 no-claim-requires c κs = search needs
 
 put-slot-requires-2 : tie.Need-put-slot-requires-2 Inv-loop μ-loop
-put-slot-requires-2 c κs =
-    let l = c .before .before .before in
-    let s = l .before .before in
-    (l .loop .inv .1 ∙ s .pre .0, (l .loop .inv .2, omega (arith, s .pre .1 .1 .0 .few, s .pre .1 .1 .1)))
+put-slot-requires-2 c κs = search needs
 
 same-length : tie.Need-same-length Inv-loop μ-loop
 same-length c = search needs
@@ -92,21 +71,12 @@ returns c =
     let n = l .before .before .args .n in
     let i = l .loop .i in
     let q : n - 1 ≡ i = omega arith in
-    let r = l .loop .inv .3 in
+    let r = l .loop .inv .2 in
     let old = slots 8 (l .loop .row) in
-    let e = p .put-slot2 .ensures .1 ∙ ap (λ (y : Claim). set old (n - 1) y) (p .before .no-claim .ensures) in
-    let w = clear-last r (n - 1) (omega arith) (omega arith) in (
-      p .put-slot2 .ensures .0,
-      record {
-        row = subst (λ (cs : List Claim). Row cs (n - 1)) (sym e) (w .row);
-        list =
-            ap (take (n - 1)) e
-            ∙ w .list
-            ∙ sym (remove-end r (n - 1) (omega arith) (omega arith))
-            ∙ ap (λ (k : ℕ). removeAt k (take n old)) q
-            ∙ l .loop .inv .4;
-      },
-    )
+    let e = p .put-slot2 .ensures .1 ∙ ap (set old (n - 1)) (p .before .no-claim .ensures) in
+    let w = clear-last r (n - 1) (omega arith) (omega arith) in
+    let same = sym (remove-end r (n - 1) (omega arith) (omega arith)) ∙ ap (λ (k : ℕ). removeAt k (take n old)) q ∙ l .loop .inv .3 in
+    (p .put-slot2 .ensures .0, rw e (record { row = w .row; list = w .list ∙ same }))
 
 pub take-out-spec : {M : Type 1} → statement M
 take-out-spec =
@@ -116,9 +86,8 @@ take-out-spec =
     μ-loop
     sub-last
     loop-holds
-    add-claim-at
-    mul-claim-at
-    claim-at-requires
+    add-slot-at
+    slot-at-requires
     put-slot-requires
     add-i
     loop-less

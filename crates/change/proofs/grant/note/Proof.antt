@@ -1,14 +1,29 @@
--- Each write of the head is one of its amounts; the state and a reading leave all.
-use Prim.Native.Nat.{ℕ}
-use mathlib.Core.List.{List}
-use mathlib.Core.Path.{sym, subst}
+-- Each write to the head is one of its amounts; a set of the state and a reading leave all.
+use Prim.Native.Nat.{_^_, _<_}
 use native.Mathlib.Omega.{arith}
 use borrow.Author.Needs.{needs}
 use Rattle.part.specs.Layout.{decode}
-use Rattle.change.specs.Holding.{Holds, noted}
-use Rattle.change.proofs.GrantLaws.{note-first, note-second, note-none}
+use Rattle.change.specs.Holding.{Holds}
+use Rattle.change.specs.HoldingLaws.{disk-holds}
+use Rattle.change.proofs.GrantLaws.{note-used, note-promised, note-none}
 use Rattle.change.proofs.grant.note.Statement.{statement}
 use Rattle.change.proofs.grant.note.Tie as tie
+
+-- The part holds the disk that is read from it.
+whole : (k : tie.After-slice-known) → Holds (k .before .args .s .now) (decode (k .before .args .s .now))
+whole k = disk-holds (k .before .pre .0) (λ i. k .slice-known .given i .fits)
+
+fits : (z : tie.Start) → z .args .total < 2 ^ 32
+fits z = omega (arith, z .fits .total)
+
+writes-requires : tie.Need-writes-requires
+writes-requires c κs = search needs
+
+share-requires : tie.Need-share-requires
+share-requires c κs = search needs
+
+add-put-word : tie.Need-add-put-word
+add-put-word c = search needs
 
 put-word-requires : tie.Need-put-word-requires
 put-word-requires c κs = search needs
@@ -18,10 +33,17 @@ same-length c = search needs
 
 returns : tie.Need-returns
 returns c =
-    let k = c .before .before .before .before .before .before in
-    let a = k .args in
-    subst (λ (r : List ℕ). Holds r (noted (decode (a .s .now)) (a .m) (a .total))) (sym (c .before .before .put-word .ensures))
-    (note-first (k .pre .1 .0) (a .m) (a .total) (omega (arith, k .fits .total)) (c .before .before .before .before .if1 .taken))
+    let t = c .before .before .before .before in
+    let m = t .before .before in
+    let z = m .before .before in
+    rw (c .before .before .put-word .ensures)
+    (note-used (whole (m .before)) (z .args .m) (z .args .total) (fits z) (m .writes .ensures) (t .before .share .ensures) (t .if1 .taken))
+
+share-requires-2 : tie.Need-share-requires-2
+share-requires-2 c κs = search needs
+
+add-put-word-2 : tie.Need-add-put-word-2
+add-put-word-2 c = search needs
 
 put-word-requires-2 : tie.Need-put-word-requires-2
 put-word-requires-2 c κs = search needs
@@ -31,23 +53,32 @@ same-length-2 c = search needs
 
 returns-2 : tie.Need-returns-2
 returns-2 c =
-    let k = c .before .before .before .before .before .before .before in
-    let a = k .args in
-    subst (λ (r : List ℕ). Holds r (noted (decode (a .s .now)) (a .m) (a .total))) (sym (c .before .before .put-word2 .ensures))
-    (note-second (k .pre .1 .0) (a .m) (a .total) (omega (arith, k .fits .total)) (c .before .before .before .before .before .if1 .left) (c .before .before .before .before .if2 .taken))
+    let t = c .before .before .before .before in
+    let m = t .before .before .before .before in
+    let z = m .before .before in
+    rw (c .before .before .put-word2 .ensures)
+    (note-promised (whole (m .before)) (z .args .m) (z .args .total) (fits z) (m .writes .ensures) (t .before .share2 .ensures) (t .if2 .taken))
 
 returns-3 : tie.Need-returns-3
 returns-3 c =
-    let k = c .before .before .before in
-    note-none (k .pre .1 .0) (k .args .m) (k .args .total) (omega (arith, k .fits .total)) (k .pre .1 .1) (omega (arith, c .if2 .left))
+    let first = c .before .before in
+    let m = first .before .before in
+    let z = m .before .before in
+    note-none (whole (m .before)) (z .args .m) (z .args .total) (fits z) (z .pre .1) (m .writes .ensures) (first .before .share .ensures) (first .if1 .left)
+    (c .before .share2 .ensures) (c .if2 .left)
 
 pub note-spec : {M : Type 1} → statement M
 note-spec =
     tie.close
     (tie.spec
+    writes-requires
+    share-requires
+    add-put-word
     put-word-requires
     same-length
     returns
+    share-requires-2
+    add-put-word-2
     put-word-requires-2
     same-length-2
     returns-2

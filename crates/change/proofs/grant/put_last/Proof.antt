@@ -1,19 +1,15 @@
--- The slot, and the count.
-use Prim.Native.Nat.{ℕ, _+_}
-use mathlib.Core.List.{List}
-use mathlib.Core.Path.{_≡_, sym, ap, _∙_, subst}
-use native.Mathlib.Omega.{arith}
+-- The claim's slot comes back with the others, and the head counts one more.
 use borrow.Author.Needs.{needs}
-use lib.ListN.{length, set}
-use Rattle.num.specs.Word.{putWord}
-use Rattle.num.specs.RunLaws.{mid-splice}
-use Rattle.law.specs.declared.Claim.{Claim}
-use Rattle.part.specs.Layout.{slots, decode}
-use Rattle.change.specs.Holding.{Holds, withLast}
-use Rattle.change.specs.HoldingLaws.{active-slots, active-kept}
+use Rattle.part.specs.Layout.{decode}
+use Rattle.change.specs.Holding.{Holds}
+use Rattle.change.specs.HoldingLaws.{disk-holds, active-lent}
 use Rattle.change.proofs.GrantLaws.{last-holds}
 use Rattle.change.proofs.grant.put_last.Statement.{statement}
 use Rattle.change.proofs.grant.put_last.Tie as tie
+
+-- The part holds the disk that is read from it.
+whole : (k : tie.After-slice-known) → Holds (k .before .args .s .now) (decode (k .before .args .s .now))
+whole k = disk-holds (k .before .pre .0) (λ i. k .slice-known .given i .fits)
 
 sub-put-slot : tie.Need-sub-put-slot
 sub-put-slot c = search needs
@@ -25,9 +21,7 @@ part-put-slot-end : tie.Need-part-put-slot-end
 part-put-slot-end c = search needs
 
 put-slot-requires : tie.Need-put-slot-requires
-put-slot-requires c κs =
-    let k = c .before .before in
-    (search needs, (active-kept (k .pre .1 .0), search needs))
+put-slot-requires c κs = (active-lent (whole (c .before)), search needs)
 
 add-put-word : tie.Need-add-put-word
 add-put-word c = search needs
@@ -40,16 +34,9 @@ same-length c = search needs
 
 returns : tie.Need-returns
 returns c =
-    let k = c .before .before .before .before .before .before .before .before .before in
-    let a = k .args in
-    let p = c .before .before .before .before .before .before .put-slot in
-    let h = k .pre .1 .0 in
-    let put : slots 8 (p .last .0) ≡ set (decode (a .s .now) .active) (a .n) (a .c) =
-    p .ensures .1 ∙ ap (λ (cs : List Claim). set cs (a .n) (a .c)) (active-slots h) in
-    let same : length (p .last .0) ≡ 352 = search needs in
-    subst (λ (r : List ℕ). Holds r (withLast (decode (a .s .now)) (a .n) (a .c)))
-    (sym (c .before .before .put-word .ensures ∙ ap (λ (r : List ℕ). putWord r 8 (a .n + 1)) (mid-splice 64 416 (a .s .now) (p .last .0) (omega arith) (omega (arith, k .pre .0)) same)))
-    (last-holds h (a .c) (k .pre .1 .1) (p .ensures .0) put)
+    let p = c .before .before .before .before .before .before in
+    let k = p .before .before in
+    rw (c .before .before .put-word .ensures) (last-holds (whole k) (k .before .args .c) (k .before .pre .1) (p .put-slot .ensures .0) (p .put-slot .ensures .1))
 
 pub put-last-spec : {M : Type 1} → statement M
 put-last-spec =

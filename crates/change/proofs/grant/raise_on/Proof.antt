@@ -1,39 +1,36 @@
 -- The active slots come back raised.
-use Prim.Native.Nat.{ℕ, _+_}
-use mathlib.Core.List.{List}
-use mathlib.Core.Path.{_≡_, sym, ap, _∙_, subst}
+use Prim.Native.Nat.{_+_}
+use mathlib.Core.Path.{_≡_, _∙_, subst}
 use native.Mathlib.Omega.{arith}
 use borrow.Author.Needs.{needs}
-use lib.ListN.{length}
-use Rattle.num.specs.RunLaws.{mid-splice}
-use Rattle.law.specs.declared.Claim.{Claim}
 use Rattle.law.specs.Granting.{gap}
 use Rattle.law.specs.DiskType.{diskTable}
 use Rattle.rules.specs.Methods.{figuresOf}
 use Rattle.rules.specs.Pairs.{raiseOf}
-use Rattle.rules.specs.declared.disk.Disk.{Disk}
 use Rattle.rules.specs.Disks.{coreIn}
-use Rattle.part.specs.Layout.{slots, decode}
-use Rattle.slots.specs.Slots.{mapTo, raiseWith}
-use Rattle.change.specs.Holding.{Holds, withActive, raisedOf}
-use Rattle.change.specs.HoldingLaws.{active-slots, active-kept, put-active-run}
+use Rattle.part.specs.Layout.{decode}
+use Rattle.change.specs.Holding.{Holds}
+use Rattle.part.specs.PartLaws.{disk-good}
+use Rattle.change.specs.HoldingLaws.{disk-holds, active-lent, active-slots, active-back}
 use Rattle.change.proofs.ChangeLaws.{raisable, raises}
 use Rattle.change.proofs.grant.raise_on.Statement.{statement}
 use Rattle.change.proofs.grant.raise_on.Tie as tie
 
--- The disk of the part.
-abbrev disk : tie.Start → Disk
-disk k = decode (k .args .s .now)
+-- The part holds the disk that is read from it.
+whole : (k : tie.After-slice-known) → Holds (k .before .args .s .now) (decode (k .before .args .s .now))
+whole k = disk-holds (k .before .pre .0) (λ i. k .slice-known .given i .fits)
+
+abbrev at-start : tie.After-raise-of → tie.After-slice-known
+at-start r = r .before .before .before .before .before .before .before
 
 -- The raise is the law's.
-raise-is : (c : tie.After-raise-of) → c .raise-of .result ≡ c .before .before .before .before .before .before .before .before .args .c .error + gap diskTable (coreIn (disk (c .before .before .before .before .before .before .before .before))) (c .before .before .before .before .before .before .before .before .args .c)
-raise-is c =
-    c .raise-of .ensures .0
-    ∙ (λ i. raiseOf (figuresOf (c .before .before .before .before .before .used-at .ensures i) (c .before .before .before .promised-at .ensures i) (c .before .state-at .ensures i)) (c .before .before .before .before .before .before .before .before .args .c))
-
--- The slots that come back are as many bytes.
-long : (k : tie.After-raise-all) → length (k .raise-all .last .0) ≡ 352
-long k = search needs
+raise-is : (r : tie.After-raise-of) →
+    let a = at-start r .before .args in r .raise-of .result ≡ a .c .error + gap diskTable (coreIn (decode (a .s .now))) (a .c)
+raise-is r =
+    let state = r .before in
+    let promised = state .before .before in
+    r .raise-of .ensures .0
+    ∙ (λ i. raiseOf (figuresOf (promised .before .before .used-at .ensures i) (promised .promised-at .ensures i) (state .state-at .ensures i)) (at-start r .before .args .c))
 
 used-at-requires : tie.Need-used-at-requires
 used-at-requires c κs = search needs
@@ -58,38 +55,24 @@ part-raise-all-end c = search needs
 
 raise-all-requires : tie.Need-raise-all-requires
 raise-all-requires c κs =
-    let k = c .before .before .before .before .before .before .before .before .before in
-    let h = k .pre .1 .0 in
-    let good = k .pre .1 .1 .0 in
-    let n = k .pre .1 .1 .1 .1 .1 in (
-      search needs,
-      (
-        active-kept h,
-        (
-          omega (arith, n, good .active .few),
-          rw (active-slots h, n, raise-is (c .before)) (raisable (disk k) (k .args .c) good (k .pre .1 .1 .1 .0) (k .pre .1 .1 .1 .1 .0)),
-        ),
-      ),
-    )
+    let k = at-start (c .before) in
+    let z = k .before in
+    let good = disk-good (z .pre .0) in
+    let n = z .pre .1 .1 .1 in
+    let within = raisable (decode (z .args .s .now)) (z .args .c) good (z .pre .1 .0) (z .pre .1 .1 .0) n (raise-is (c .before)) (active-slots (whole k)) in
+    (active-lent (whole k), (omega (arith, n, good .active .few), within))
 
 same-length : tie.Need-same-length
 same-length c = search needs
 
 returns : tie.Need-returns
 returns c =
-    let k = c .before .before .before .before .before .before .before .before .before .before .before .before in
-    let a = k .args in
-    let h = k .pre .1 .0 in
-    let row = c .before .before .raise-all .last .0 in
+    let r = c .before .before .before .before in
+    let k = at-start r in
+    let z = k .before in
     let e = c .before .before .raise-all .ensures in
-    let is : withActive (disk k) (slots 8 row) ≡ raisedOf (disk k) (a .c) =
-    ap (withActive (disk k)) (e .1)
-    ∙ ap (λ (cs : List Claim). withActive (disk k) (mapTo (a .n) (raiseWith (a .c .method) (c .before .before .before .before .raise-of .result)) cs)) (active-slots h)
-    ∙ (λ i. withActive (disk k) (mapTo (k .pre .1 .1 .1 .1 .1 i) (raiseWith (a .c .method) (raise-is (c .before .before .before .before) i)) (disk k .active)))
-    ∙ raises (disk k) (a .c) (k .pre .1 .1 .1 .1 .0) in
-    subst (λ (r : List ℕ). Holds r (raisedOf (disk k) (a .c)))
-    (sym (mid-splice 64 416 (a .s .now) row (omega arith) (omega (arith, k .pre .0)) (long (c .before .before))))
-    (subst (Holds _) is (put-active-run h (e .0)))
+    subst (Holds _) (raises (decode (z .args .s .now)) (z .args .c) (z .pre .1 .1 .0) (z .pre .1 .1 .1) (raise-is r) (active-slots (whole k)) (e .1))
+    (active-back (whole k) (e .0))
 
 pub raise-on-spec : {M : Type 1} → statement M
 raise-on-spec =

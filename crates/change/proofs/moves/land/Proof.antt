@@ -1,35 +1,77 @@
--- Each write of the head is one of its figures; a reading leaves all.
-use Prim.Native.Nat.{ℕ, _^_, _≤_, _<_}
+-- Each write to the head is one of its figures; a reading leaves all.
+use Prim.Native.Nat.{ℕ, _+_, _^_, _<_}
+use mathlib.Core.Bool.{Bool, true}
 use mathlib.Core.List.{List}
-use mathlib.Core.Path.{_≡_, sym, ap, _∙_, subst}
+use mathlib.Core.Path.{_≡_, ap, _∙_}
 use native.Mathlib.Omega.{arith}
 use borrow.Author.Needs.{needs}
-use lib.IntN.{ℤ, _+ℤ_}
+use lib.IntN.{_+ℤ_}
 use mir.Facts.{toZ-ofZ}
 use mir.Syntax.{w32}
-use mir.Val.{SFits}
+use mir.Val.{SFits, toZ, ofZ}
+use Rattle.num.specs.Bits.{shares}
 use Rattle.num.specs.Metric.{size-add}
 use Rattle.num.specs.Word.{putWord}
 use Rattle.num.specs.Signed.{putSigned}
 use Rattle.law.specs.declared.Attr.{Attr}
+use Rattle.law.specs.Types.{Attribute, a0, a1, a2}
+use Rattle.rules.specs.Methods.{maskOf}
 use Rattle.part.specs.Layout.{decode}
 use Rattle.change.specs.Holding.{Holds, landOf}
-use Rattle.change.proofs.MoveLaws.{set-used, add-promised, set-promised, set-state, land-leaves}
+use Rattle.change.specs.HoldingLaws.{disk-holds}
+use Rattle.change.proofs.MoveLaws.{placeOf, set-lands, add-lands, none-lands}
 use Rattle.change.proofs.moves.land.Statement.{statement}
 use Rattle.change.proofs.moves.land.Tie as tie
 
--- The sum is the law's.
-sum-is : (k : tie.After-plus) → k .plus .result ≡ decode (k .before .before .before .before .before .before .before .before .before .args .s .now) .promised .value +ℤ k .before .before .before .before .before .before .before .before .before .args .w .value
-sum-is k =
-    let a = k .before .before .before .before .before .before .before .before .before .args in
-    let p = k .before .before .before .before .promised-at in
-    let e : k .plus .result ≡ p .result .value +ℤ a .w .value =
-    rw (toZ-ofZ (record { sfits = k .before .before .struct-told2 .given .0 .1 }), toZ-ofZ (record { sfits = k .before .struct-told3 .given .1 .1 .1 .1 .1 .0 .1 })) at (k .plus .ensures .0) in
-    e ∙ ap (λ (x : Attr). x .value +ℤ a .w .value) (p .ensures)
+-- The part holds the disk that is read from it.
+whole : (k : tie.After-slice-known) → Holds (k .before .args .s .now) (decode (k .before .args .s .now))
+whole k = disk-holds (k .before .pre .0) (λ i. k .slice-known .given i .fits)
 
--- Neither of the four methods that write.
-four : (m : ℕ) → (m ≡ 0 → ⊥) → (m ≡ 1 → ⊥) → (m ≡ 2 → ⊥) → (m ≡ 3 → ⊥) → 4 ≤ m
-four m a b c d = omega arith
+fits : (z : tie.Start) → SFits w32 (z .args .w .value) × (z .args .w .measured < 2 ^ 32)
+fits z = search needs
+
+-- From each later test, the mask of what the method sets.
+abbrev at-sets2 : tie.After-share2 → tie.After-sets
+at-sets2 k = k .before .before .before
+
+abbrev at-sets3 : tie.After-share3 → tie.After-sets
+at-sets3 k = at-sets2 (k .before .before)
+
+abbrev at-sets4 : tie.After-share4 → tie.After-sets
+at-sets4 k = at-sets3 (k .before .before .before)
+
+-- A set lands where its attribute stands.
+stored : (m : tie.After-sets) (a : Attribute) {r : List ℕ} {b : Bool} →
+    let s = m .before .before .args .s .now in
+    let w = m .before .before .args .w in
+    r ≡ putWord (putSigned s (placeOf a) (toZ w32 (ofZ w32 (w .value)))) (placeOf a + 4) (w .measured) → b ≡ shares (m .sets .result) (maskOf a) →
+    b ≡ true → Holds r (landOf (decode s) w)
+stored m a e x y =
+    let z = m .before .before in
+    let f = fits z in
+    rw (e, toZ-ofZ (f .0)) (set-lands (whole (m .before)) (z .args .w) a (f .0 .sfits) (f .1) (m .sets .ensures) x y)
+
+-- From the sum, the test before it and the start.
+abbrev at-test : tie.After-plus → tie.After-share4
+at-test k = k .before .before .before .before .before .before .before
+
+abbrev at-start : tie.After-plus → tie.Start
+at-start k = at-sets4 (at-test k) .before .before
+
+-- The sum is the law's.
+sum-is : (k : tie.After-plus) → let a = at-start k .args in k .plus .result ≡ decode (a .s .now) .promised .value +ℤ a .w .value
+sum-is k =
+    let p = k .before .before .before .before .promised-at in
+    let w = at-start k .args .w in
+    let e : k .plus .result ≡ p .result .value +ℤ w .value =
+    rw (toZ-ofZ (record { sfits = k .before .before .struct-told4 .given .0 .1 }), toZ-ofZ (fits (at-start k) .0)) at (k .plus .ensures .0) in
+    e ∙ ap (λ (x : Attr). x .value +ℤ w .value) (p .ensures)
+
+sets-requires : tie.Need-sets-requires
+sets-requires c κs = search needs
+
+share-requires : tie.Need-share-requires
+share-requires c κs = search needs
 
 store-requires : tie.Need-store-requires
 store-requires c κs = search needs
@@ -39,13 +81,42 @@ same-length c = search needs
 
 returns : tie.Need-returns
 returns c =
-    let k = c .before .before .before .before .before .before .before in
-    let a = k .args in
-    let f : SFits w32 (a .w .value) = search needs in
-    let t : a .w .measured < 2 ^ 32 = search needs in
-    subst (λ (r : List ℕ). Holds r (landOf (decode (a .s .now)) (a .w)))
-    (sym (c .before .before .store .ensures ∙ ap (λ (z : ℤ). putWord (putSigned (a .s .now) 16 z) 20 (a .w .measured)) (toZ-ofZ f)))
-    (set-used (k .pre .1 .0) (a .w) (f .sfits) t (c .before .before .before .before .before .if1 .taken))
+    let t = c .before .before .before .before .before in
+    stored (t .before .before) a0 (c .before .before .store .ensures) (t .before .share .ensures) (t .if1 .taken)
+
+share-requires-2 : tie.Need-share-requires-2
+share-requires-2 c κs = search needs
+
+store-requires-2 : tie.Need-store-requires-2
+store-requires-2 c κs = search needs
+
+same-length-2 : tie.Need-same-length-2
+same-length-2 c = search needs
+
+returns-2 : tie.Need-returns-2
+returns-2 c =
+    let t = c .before .before .before .before .before in
+    stored (at-sets2 (t .before)) a1 (c .before .before .store2 .ensures) (t .before .share2 .ensures) (t .if2 .taken)
+
+share-requires-3 : tie.Need-share-requires-3
+share-requires-3 c κs = search needs
+
+store-requires-3 : tie.Need-store-requires-3
+store-requires-3 c κs = search needs
+
+same-length-3 : tie.Need-same-length-3
+same-length-3 c = search needs
+
+returns-3 : tie.Need-returns-3
+returns-3 c =
+    let t = c .before .before .before .before .before in
+    stored (at-sets3 (t .before)) a2 (c .before .before .store3 .ensures) (t .before .share3 .ensures) (t .if3 .taken)
+
+adds-requires : tie.Need-adds-requires
+adds-requires c κs = search needs
+
+share-requires-4 : tie.Need-share-requires-4
+share-requires-4 c κs = search needs
 
 promised-at-requires : tie.Need-promised-at-requires
 promised-at-requires c κs = search needs
@@ -55,84 +126,59 @@ plus-requires c κs = search needs
 
 narrow-requires : tie.Need-narrow-requires
 narrow-requires c κs =
-    let k = c .before .before .before .before .before .before .before .before .before in
+    let a = at-start c .args in
     rw (toZ-ofZ (record { sfits = c .plus .ok }), sum-is c)
-    (omega (arith, size-add (decode (k .args .s .now) .promised .value) (k .args .w .value), k .pre .1 .1))
+    (omega (arith, size-add (decode (a .s .now) .promised .value) (a .w .value), at-start c .pre .1))
 
 put-signed-requires : tie.Need-put-signed-requires
 put-signed-requires c κs = search needs
-
-same-length-2 : tie.Need-same-length-2
-same-length-2 c = search needs
-
-returns-2 : tie.Need-returns-2
-returns-2 c =
-    let p = c .before .before .before .before in
-    let n = c .before .before .before .narrow in
-    let k = p .before .before .before .before .before .before .before .before .before in
-    let a = k .args in
-    let f : SFits w32 (a .w .value) = record { sfits = p .before .struct-told3 .given .1 .1 .1 .1 .1 .0 .1 } in
-    let t : a .w .measured < 2 ^ 32 = search needs in
-    subst (λ (r : List ℕ). Holds r (landOf (decode (a .s .now)) (a .w)))
-    (sym (c .before .before .put-signed .ensures ∙ ap (putSigned (a .s .now) 32) (toZ-ofZ (record { sfits = n .ok }))))
-    (add-promised (k .pre .1 .0) (a .w) (f .sfits) t (p .before .before .before .before .before .before .if2 .taken) (n .ok)
-    (n .ensures ∙ toZ-ofZ (record { sfits = p .plus .ok }) ∙ sum-is p))
-
-store-requires-2 : tie.Need-store-requires-2
-store-requires-2 c κs = search needs
-
-same-length-3 : tie.Need-same-length-3
-same-length-3 c = search needs
-
-returns-3 : tie.Need-returns-3
-returns-3 c =
-    let k = c .before .before .before .before .before .before .before .before .before in
-    let a = k .args in
-    let f : SFits w32 (a .w .value) = search needs in
-    let t : a .w .measured < 2 ^ 32 = search needs in
-    subst (λ (r : List ℕ). Holds r (landOf (decode (a .s .now)) (a .w)))
-    (sym (c .before .before .store2 .ensures ∙ ap (λ (z : ℤ). putWord (putSigned (a .s .now) 32 z) 36 (a .w .measured)) (toZ-ofZ f)))
-    (set-promised (k .pre .1 .0) (a .w) (f .sfits) t (c .before .before .before .before .before .if3 .taken))
-
-store-requires-3 : tie.Need-store-requires-3
-store-requires-3 c κs = search needs
 
 same-length-4 : tie.Need-same-length-4
 same-length-4 c = search needs
 
 returns-4 : tie.Need-returns-4
 returns-4 c =
-    let k = c .before .before .before .before .before .before .before .before .before .before in
-    let a = k .args in
-    let f : SFits w32 (a .w .value) = search needs in
-    let t : a .w .measured < 2 ^ 32 = search needs in
-    subst (λ (r : List ℕ). Holds r (landOf (decode (a .s .now)) (a .w)))
-    (sym (c .before .before .store3 .ensures ∙ ap (λ (z : ℤ). putWord (putSigned (a .s .now) 48 z) 52 (a .w .measured)) (toZ-ofZ f)))
-    (set-state (k .pre .1 .0) (a .w) (f .sfits) t (c .before .before .before .before .before .if4 .taken))
+    let n = c .before .before .before in
+    let p = n .before in
+    let t = at-test p in
+    rw (c .before .before .put-signed .ensures, toZ-ofZ (record { sfits = n .narrow .ok }))
+    (add-lands (whole (at-sets4 t .before)) (at-start p .args .w) (n .narrow .ok) (n .narrow .ensures ∙ toZ-ofZ (record { sfits = p .plus .ok }) ∙ sum-is p)
+    (t .before .adds .ensures) (t .share4 .ensures) (p .before .before .before .before .before .before .if4 .taken))
 
 returns-5 : tie.Need-returns-5
 returns-5 c =
-    let k = c .before .before .before .before .before in
-    land-leaves (k .pre .1 .0) (k .args .w)
-    (four (k .args .w .method) (c .before .before .before .if1 .left) (c .before .before .if2 .left) (c .before .if3 .left) (c .if4 .left))
+    let fourth = c .before in
+    let third = fourth .before .before in
+    let second = third .before .before in
+    let first = second .before .before in
+    let m = at-sets4 fourth in
+    none-lands (whole (m .before)) (m .before .before .args .w) (m .sets .ensures) (first .before .share .ensures) (first .if1 .left)
+    (second .before .share2 .ensures) (second .if2 .left) (third .before .share3 .ensures) (third .if3 .left)
+    (fourth .before .adds .ensures) (fourth .share4 .ensures) (c .if4 .left)
 
 pub land-spec : {M : Type 1} → statement M
 land-spec =
     tie.close
     (tie.spec
+    sets-requires
+    share-requires
     store-requires
     same-length
     returns
+    share-requires-2
+    store-requires-2
+    same-length-2
+    returns-2
+    share-requires-3
+    store-requires-3
+    same-length-3
+    returns-3
+    adds-requires
+    share-requires-4
     promised-at-requires
     plus-requires
     narrow-requires
     put-signed-requires
-    same-length-2
-    returns-2
-    store-requires-2
-    same-length-3
-    returns-3
-    store-requires-3
     same-length-4
     returns-4
     returns-5)

@@ -1,44 +1,23 @@
--- It stands among those that wait, and the head says so: the part of the disk that the law leaves.
+-- It stands among those that wait, and the head says so: this is the part of the disk that the law leaves.
 use Prim.Native.Nat.{ℕ, _+_}
 use mathlib.Core.List.{List}
-use mathlib.Core.Path.{_≡_, ap, _∙_}
-use native.Mathlib.Omega.{arith}
+use mathlib.Core.Path.{ap, _∙_}
 use borrow.Author.Needs.{needs}
-use lib.ListN.{length}
 use Rattle.num.specs.Word.{putWord}
-use Rattle.num.specs.Runs.{splice}
-use Rattle.num.specs.RunLaws.{mid-splice}
-use Rattle.rules.specs.declared.disk.Disk.{Disk}
-use Rattle.rules.specs.Disks.{Good}
 use Rattle.part.specs.Layout.{decode}
-use Rattle.part.specs.LayoutLaws.{decode-good}
 use Rattle.change.specs.Holding.{Holds}
-use Rattle.change.specs.HoldingLaws.{decodes-holds, waiting-slots, waiting-kept}
+use Rattle.part.specs.PartLaws.{disk-good}
+use Rattle.change.specs.HoldingLaws.{disk-holds, waiting-lent, waiting-slots}
 use Rattle.change.proofs.MoveLaws.{wait-part}
 use Rattle.change.proofs.moves.wait.Statement.{statement}
 use Rattle.change.proofs.moves.wait.Tie as tie
 
--- The disk of the part.
-abbrev disk : tie.Start → Disk
-disk k = decode (k .args .s .now)
+-- The part holds the disk that is read from it.
+whole : (k : tie.After-slice-known) → Holds (k .before .args .s .now) (decode (k .before .args .s .now))
+whole k = disk-holds (k .before .pre .0) (λ i. k .slice-known .given i .fits)
 
-good : (k : tie.Start) → Good (disk k)
-good k = decode-good (k .args .s .now) (k .pre .0) (k .pre .1 .0)
-
-whole : (k : tie.After-slice-known) → Holds (k .before .args .s .now) (disk (k .before))
-whole k = decodes-holds (k .before .args .s .now) (λ i. k .slice-known .given i .fits) (k .before .pre .0) (k .before .pre .1 .0)
-
--- The number read is how many wait.
-count : (k : tie.After-word-at) → k .word-at .result ≡ disk (k .before .before .before) .waitings
-unfolding decode
-count k = k .word-at .ensures
-
--- The slots that come back are as many bytes.
-long : (k : tie.After-queue-in) → length (k .queue-in .last .0) ≡ 352
-long k = search needs
-
-word-at-requires : tie.Need-word-at-requires
-word-at-requires c κs = search needs
+waitings-at-requires : tie.Need-waitings-at-requires
+waitings-at-requires c κs = search needs
 
 sub-queue-in : tie.Need-sub-queue-in
 sub-queue-in c = search needs
@@ -54,9 +33,10 @@ cast-queue-in c = search needs
 
 queue-in-requires : tie.Need-queue-in-requires
 queue-in-requires c κs =
-    let h = whole (c .before .before .before) in
-    let k = c .before .before .before .before in
-    (search needs, (waiting-kept h, rw (waiting-slots h, count (c .before)) (good k .waiting, k .pre .1 .1 .0)))
+    let n = c .before in
+    let k = n .before .before in
+    let z = k .before in
+    (waiting-lent (whole k), rw (waiting-slots (whole k), n .waitings-at .ensures) (disk-good (z .pre .0) .waiting, z .pre .1 .0))
 
 add-put-numbers : tie.Need-add-put-numbers
 add-put-numbers c = search needs
@@ -75,23 +55,21 @@ same-length c = search needs
 
 returns : tie.Need-returns
 returns c =
-    let w = c .before .before .before .before .before .before .before .before .before .before .before .before .before in
-    let k = w .before .before .before in
-    let a = k .args in
-    let h = whole (w .before .before) in
-    let q = c .before .before .before .before .before .before .before .before .before .before .before .queue-in in
+    let p = c .before .before .before .before .before .before .before in
+    let q = p .before .before .before .before in
+    let n = q .before .before in
+    let k = n .before .before in
+    let z = k .before in
+    let a = z .args in
     c .before .before .put-word .ensures
-    ∙ ap (λ (r : List ℕ). putWord r 4 (a .c .ticket + 1))
-    (c .before .before .before .before .before .before .before .put-numbers .ensures
-    ∙ ap (λ (r : List ℕ). putWord (putWord r 0 (a .second)) 12 (w .word-at .result + 1)) (mid-splice 416 768 (a .s .now) (q .last .0) (omega arith) (omega (arith, k .pre .0)) (long (c .before .before .before .before .before .before .before .before .before .before .before)))
-    ∙ ap (λ (n : ℕ). putWord (putWord (splice (a .s .now) 416 (q .last .0)) 0 (a .second)) 12 (n + 1)) (count w))
-    ∙ wait-part (good k) (a .second) (a .c) (k .fits .second .fits) (k .pre .1 .1 .0) (k .pre .1 .1 .1) h (q .ensures .0) (rw (waiting-slots h, count w) at (q .ensures .1))
+    ∙ ap (λ (r : List ℕ). putWord r 4 (a .c .ticket + 1)) (p .put-numbers .ensures)
+    ∙ wait-part (disk-good (z .pre .0)) (z .fits .second .fits) (q .queue-in .ensures .0) (n .waitings-at .ensures) (z .pre .1 .0) (a .c) (z .pre .1 .1) (whole k) (q .queue-in .ensures .1)
 
 pub wait-spec : {M : Type 1} → statement M
 wait-spec =
     tie.close
     (tie.spec
-    word-at-requires
+    waitings-at-requires
     sub-queue-in
     part-queue-in-start
     part-queue-in-end

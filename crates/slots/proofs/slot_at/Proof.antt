@@ -1,0 +1,20 @@
+-- The claim read is that of the slot's bytes.
+use mathlib.Core.Path.{sym, _∙_}
+use borrow.Author.Needs.{needs}
+use Rattle.part.specs.SlotLaws.{slot-at}
+use Rattle.slots.proofs.slot_at.Statement.{statement}
+use Rattle.slots.proofs.slot_at.Tie as tie
+
+mul-claim-at : tie.Need-mul-claim-at
+mul-claim-at c = search needs
+
+claim-at-requires : tie.Need-claim-at-requires
+claim-at-requires c κs = search needs
+
+returns : tie.Need-returns
+returns c =
+    let k = c .before .before in
+    c .claim-at .ensures ∙ sym (slot-at 8 (k .args .row .now) (k .args .i) (k .pre .1))
+
+pub slot-at-spec : {M : Type 1} → statement M
+slot-at-spec = tie.close (tie.spec mul-claim-at claim-at-requires returns)
