@@ -1,45 +1,33 @@
 -- Laws of a claim by itself: where the figures fit, what the code compares with the most that a claim's method may have are the
 -- law's tests of it.
 use Prim.Native.Nat.{ℕ, _^_, _≤_, _<_}
-use mathlib.Core.Bool.{Bool, true, false, cond, _&&_, and-true}
-use mathlib.Core.List.{List, [], _∷_}
+use mathlib.Core.Bool.{Bool, true, false, cond, not, _&&_, _||_, and-true, and-comm}
+use mathlib.Core.List.{List, [], _∷_, map}
 use mathlib.Core.Path.{_≡_, refl, sym, ap, _∙_}
 use native.Mathlib.Omega.{arith}
-use borrow.Author.Tests.{ltb-true, leb-true, le-leb, lt-leb, le-ltb, eqb-true, eq-eqb, ne-eqb}
+use borrow.Author.Tests.{ltb-true, leb-true, leb-false, lt-ltb, le-leb, lt-leb, eqb-true, eq-eqb}
 use lib.Dec.{leb, ltb, eqb}
 use lib.IntN.{ℤ, pos, negsuc}
-use lib.ListN.{getD}
+use lib.ListN.{length, getD}
 use lib.Signed.{mag}
 use Rattle.num.specs.Metric.{size}
 use Rattle.num.specs.Signed.{wordOf}
 use Rattle.law.specs.declared.Claim.{Claim}
 use Rattle.law.specs.Base.{allTrue}
-use Rattle.law.specs.Lists.{Passed, passed, all-passed}
+use Rattle.law.specs.Lists.{never-true, Passed, passed, all-passed}
 use Rattle.law.specs.Says.{_and_}
 use Rattle.law.specs.Types.{mostValue, mostError, mostState, mostPriority, mostFlag, Attribute, a0, a1, a2, Kind, sets, adds, reads, Figures, attr}
 use Rattle.law.specs.Entries.{kindAt, kindOf}
+use Rattle.law.specs.Granting.{addsTo}
 use Rattle.law.specs.Calls.{isCode, valueFits, fieldTests, ownFits}
 use Rattle.law.specs.Sound.{bare, bareBy, readingBy, limitFits}
 use Rattle.law.specs.DiskType.{diskTable}
-use Rattle.rules.proofs.MethodLaws.{method-past, method-cases}
-use Rattle.sound.specs.Tests.{figureTests, figureFits, figuresTests, figuresFit, claimTests, claimFits, toldFits, activeFits, waitingFits, ifReading, mostValueBy, isStateSet, valueSizeBy, valueIn, mostErrors, aloneTests, aloneFits, activeBy, waitingBy}
+use Rattle.law.specs.TableLaws.{disk-methods}
+use Rattle.rules.specs.Methods.{mostErrors}
+use Rattle.rules.specs.Pairs.{addOf}
+use Rattle.rules.proofs.MethodLaws.{method-cases}
+use Rattle.sound.specs.Tests.{figureTests, figureFits, figuresTests, figuresFit, activeRow, activeFits, waitingFits, ifReading, mostValueBy, valueSizeBy, valueIn, aloneTests, aloneFits, activeBy, waitingBy}
 use Rattle.sound.proofs.WalkLaws.{same-test}
-
--- ---- the numbers that the code chooses by the method
-
-pub value-of : (m : ℕ) → cond (ltb m 3) mostValue (cond (eqb m 3) mostState 0) ≡ mostValueBy (kindAt diskTable m)
-unfolding diskTable
-value-of =
-    method-cases (λ m. cond (ltb m 3) mostValue (cond (eqb m 3) mostState 0) ≡ mostValueBy (kindAt diskTable m))
-    refl refl refl refl refl refl refl
-    (λ m h. rw (method-past m h, le-ltb m 3 (omega arith), ne-eqb m 3 (λ e. omega arith)))
-
--- SetState alone sets the state.
-pub state-set : (m : ℕ) → eqb m 3 ≡ isStateSet (kindAt diskTable m)
-unfolding diskTable
-state-set =
-    method-cases (λ m. eqb m 3 ≡ isStateSet (kindAt diskTable m)) refl refl refl refl refl refl refl
-    (λ m h. rw (method-past m h) (ne-eqb m 3 (λ e. omega arith)))
 
 -- ---- tests that are the same
 
@@ -60,120 +48,113 @@ value-is (sets a2) z h = code-is z h
 value-is (adds a) z h = refl
 value-is (reads m) z h = none (size z)
 
--- Four tests are three and the last.
-last-of : (a b c d : Bool) → allTrue (a ∷ b ∷ c ∷ d ∷ []) ≡ (allTrue (a ∷ b ∷ c ∷ []) && d)
-last-of true true true d = and-true d
-last-of true true false d = refl
-last-of true false c d = refl
-last-of false b c d = refl
+-- 16 to 18 as the law has them, of three tests.
+pass-by : (a b c : Bool) → a ≡ false → b ≡ true → c ≡ true → not (a || (not b || (not c || false))) ≡ true
+pass-by a b c h k l = rw (h, k, l)
+
+by-pass : (a b c : Bool) → not (a || (not b || (not c || false))) ≡ true → (a ≡ false) × (b ≡ true) × (c ≡ true)
+by-pass true b c h = never-true _ h
+by-pass false false c h = never-true _ h
+by-pass false true false h = never-true _ h
+by-pass false true true h = (refl, refl, refl)
 
 -- ---- by kind
 
 module _ (now next : ℕ) (c : Claim) where
-  -- A write: the test v is of its value; its own error is within the limit l.
-  module _ (v : Bool) (l : ℕ) (most : l ≤ mostError) where
-    abbrev ours : List Bool
-    ours =
-        ltb (c .method) 7
-        ∷ leb 1 (c .ticket)
-        ∷ ltb (c .ticket) next
-        ∷ leb (c .priority) mostPriority
-        ∷ v
-        ∷ leb (c .error) l
-        ∷ leb (c .measured) now
-        ∷ leb (c .flag) 0
-        ∷ []
+  -- An unknown method.
+  abbrev past : Bool
+  past = leb (length (diskTable .kinds)) (c .method)
 
-    abbrev fields : List Bool
-    fields = v ∷ eqb (c .flag) 0 ∷ leb (c .measured) now ∷ leb (c .error) mostError ∷ []
+  abbrev formTests : List Bool
+  formTests = leb (c .priority) mostPriority ∷ leb (c .flag) mostFlag ∷ []
 
-    abbrev theirs : List Bool
-    theirs = claimFits next c ∷ allTrue fields ∷ leb (c .error) l ∷ []
-
-    there : allTrue ours ≡ true → allTrue theirs ≡ true
-    unfolding claimFits
-    there e =
-        let t = passed ours e in
-        let r = t .1 .1 .1 .1 .1 in
-        let f : c .flag ≤ 0 = leb-true (c .flag) 0 (r .1 .1 .0) in
-        let o : c .error ≤ l = leb-true (c .error) l (r .0) in
-        all-passed theirs
-        (all-passed (claimTests next c)
-        (t .1 .1 .1 .0 and le-leb (c .flag) mostFlag (omega arith) and t .1 .0 and t .1 .1 .0 and t .0 and tt)
-        and all-passed fields
-        (t .1 .1 .1 .1 .0
-        and eq-eqb (c .flag) 0 (omega arith)
-        and r .1 .0
-        and le-leb (c .error) mostError (omega arith)
-        and tt)
-        and r .0
-        and tt)
-
-    back : allTrue theirs ≡ true → allTrue ours ≡ true
-    unfolding claimFits
-    back e =
-        let t = passed theirs e in
-        let p = passed (claimTests next c) (t .0) in
-        let f = passed fields (t .1 .0) in
-        all-passed ours
-        (p .1 .1 .1 .1 .0
-        and p .1 .1 .0
-        and p .1 .1 .1 .0
-        and p .0
-        and f .0
-        and t .1 .1 .0
-        and f .1 .1 .0
-        and le-leb (c .flag) 0 (omega (arith, eqb-true (c .flag) 0 (f .1 .0)))
-        and tt)
-
-    write-is : allTrue ours ≡ allTrue theirs
-    write-is = same-test (allTrue ours) (allTrue theirs) there back
-
-  -- A reading.
-  abbrev oursRead : List Bool
-  oursRead =
+  -- The code's tests, with v that of the value and bounds for error, second and flag.
+  abbrev ours : Bool → ℕ → ℕ → ℕ → List Bool
+  ours v l m g =
       ltb (c .method) 7
       ∷ leb 1 (c .ticket)
       ∷ ltb (c .ticket) next
       ∷ leb (c .priority) mostPriority
-      ∷ eqb (size (c .value)) 0
-      ∷ leb (c .error) mostError
-      ∷ leb (c .measured) 0
-      ∷ leb (c .flag) mostFlag
+      ∷ v
+      ∷ leb (c .error) l
+      ∷ leb (c .measured) m
+      ∷ leb (c .flag) g
       ∷ []
 
-  abbrev fieldsRead : List Bool
-  fieldsRead = eqb (size (c .value)) 0 ∷ eqb (c .measured) 0 ∷ leb (c .error) mostError ∷ []
+  -- The law's, by those of the fields and of the own error.
+  abbrev theirs : List Bool → Bool → List Bool
+  theirs fields own =
+      allTrue formTests
+      ∷ leb (c .measured) now
+      ∷ leb 1 (c .ticket)
+      ∷ ltb (c .ticket) next
+      ∷ not (past || (not (allTrue fields) || (not own || false)))
+      ∷ []
 
-  abbrev theirsRead : List Bool
-  theirsRead = claimFits next c ∷ allTrue fieldsRead ∷ true ∷ []
+  -- They are the same where the fields and the own error say what v and the bounds say.
+  module _ (v : Bool) (l m g : ℕ) (fields : List Bool) (own : Bool) (early : m ≤ now) (small : g ≤ mostFlag)
+      (to : v ≡ true → c .error ≤ l → c .measured ≤ m → c .flag ≤ g → Passed fields × (own ≡ true))
+      (from : Passed fields → own ≡ true → c .flag ≤ mostFlag → (v ≡ true) × (c .error ≤ l) × (c .measured ≤ m) × (c .flag ≤ g)) where
+    there : allTrue (ours v l m g) ≡ true → allTrue (theirs fields own) ≡ true
+    there e =
+        let t = passed (ours v l m g) e in
+        let r = t .1 .1 .1 .1 .1 in
+        let k : c .method < 7 = ltb-true (c .method) 7 (t .0) in
+        let second : c .measured ≤ m = leb-true (c .measured) m (r .1 .0) in
+        let flag : c .flag ≤ g = leb-true (c .flag) g (r .1 .1 .0) in
+        let q = to (t .1 .1 .1 .1 .0) (leb-true (c .error) l (r .0)) second flag in
+        all-passed (theirs fields own)
+        (all-passed formTests (t .1 .1 .1 .0 and le-leb (c .flag) mostFlag (omega arith) and tt)
+        and le-leb (c .measured) now (omega arith)
+        and t .1 .0
+        and t .1 .1 .0
+        and pass-by past (allTrue fields) own (lt-leb (length (diskTable .kinds)) (c .method) (omega (arith, disk-methods)))
+        (all-passed fields (q .0)) (q .1)
+        and tt)
 
-  read-is : allTrue oursRead ≡ allTrue theirsRead
-  unfolding claimFits
-  read-is =
-      same-test (allTrue oursRead) (allTrue theirsRead)
-      (λ e.
-      let t = passed oursRead e in
-      let r = t .1 .1 .1 .1 .1 in
-      all-passed theirsRead
-      (all-passed (claimTests next c) (t .1 .1 .1 .0 and r .1 .1 .0 and t .1 .0 and t .1 .1 .0 and t .0 and tt)
-      and all-passed fieldsRead (t .1 .1 .1 .1 .0 and sym (none (c .measured)) ∙ r .1 .0 and r .0 and tt)
-      and refl
-      and tt))
-      (λ e.
-      let t = passed theirsRead e in
-      let p = passed (claimTests next c) (t .0) in
-      let f = passed fieldsRead (t .1 .0) in
-      all-passed oursRead
-      (p .1 .1 .1 .1 .0
-      and p .1 .1 .0
-      and p .1 .1 .1 .0
-      and p .0
-      and f .0
-      and f .1 .1 .0
-      and none (c .measured) ∙ f .1 .0
-      and p .1 .0
-      and tt))
+    back : allTrue (theirs fields own) ≡ true → allTrue (ours v l m g) ≡ true
+    back e =
+        let t = passed (theirs fields own) e in
+        let p = passed formTests (t .0) in
+        let q = by-pass past (allTrue fields) own (t .1 .1 .1 .1 .0) in
+        let k : c .method < length (diskTable .kinds) = leb-false (length (diskTable .kinds)) (c .method) (q .0) in
+        let b = from (passed fields (q .1)) (q .2) (leb-true (c .flag) mostFlag (p .1 .0)) in
+        all-passed (ours v l m g)
+        (lt-ltb (c .method) 7 (omega (arith, disk-methods))
+        and t .1 .1 .0
+        and t .1 .1 .1 .0
+        and p .0
+        and b .0
+        and le-leb (c .error) l (b .1)
+        and le-leb (c .measured) m (b .2)
+        and le-leb (c .flag) g (b .3)
+        and tt)
+
+    same-tests : allTrue (ours v l m g) ≡ allTrue (theirs fields own)
+    same-tests = same-test (allTrue (ours v l m g)) (allTrue (theirs fields own)) there back
+
+  -- A write, whose own error is within the limit l.
+  abbrev written : Bool → List Bool
+  written v = v ∷ eqb (c .flag) 0 ∷ leb (c .measured) now ∷ leb (c .error) mostError ∷ []
+
+  write-is : (v : Bool) (l : ℕ) → l ≤ mostError → allTrue (ours v l now 0) ≡ allTrue (theirs (written v) (leb (c .error) l))
+  write-is v l most =
+      same-tests v l now 0 (written v) (leb (c .error) l) (omega arith) (omega arith)
+      (λ h e m g. (
+        h and eq-eqb (c .flag) 0 (omega arith) and le-leb (c .measured) now m and le-leb (c .error) mostError (omega arith) and tt,
+        le-leb (c .error) l e,
+      ))
+      (λ p e g. (p .0, leb-true (c .error) l e, leb-true (c .measured) now (p .1 .1 .0), omega (arith, eqb-true (c .flag) 0 (p .1 .0))))
+
+  -- A reading, measured at second 0.
+  abbrev stated : Bool → List Bool
+  stated v = v ∷ eqb (c .measured) 0 ∷ leb (c .error) mostError ∷ []
+
+  read-is : (v : Bool) → allTrue (ours v mostError 0 mostFlag) ≡ allTrue (theirs (stated v) true)
+  read-is v =
+      same-tests v mostError 0 mostFlag (stated v) true (omega arith) (omega arith)
+      (λ h e m g. (h and eq-eqb (c .measured) 0 (omega arith) and le-leb (c .error) mostError e and tt, refl))
+      (λ p e g. (p .0, leb-true (c .error) mostError (p .1 .1 .0), omega (arith, eqb-true (c .measured) 0 (p .1 .0)), g))
 
   -- Told and amount of an active claim: a reading's are within its bounds, a write has neither.
   told-is : (k : Kind) →
@@ -224,21 +205,16 @@ module _ (f : Figures) (now next : ℕ) (h : figuresFit f now next ≡ true) whe
     abbrev kind : Kind
     kind = kindOf diskTable c
 
-    -- The law's tests.
-    abbrev fieldsFit : Bool
-    fieldsFit = allTrue (fieldTests now kind c)
+    -- The law's tests of a claim wherever it stands, by kind.
+    abbrev lawful : Kind → Bool
+    lawful k = allTrue (theirs now next c (fieldTests now k c) (ownFits f k (c .error)))
 
-    abbrev own : Bool
-    own = ownFits f kind (c .error)
-
-    kind-is : (k : Kind) →
-        allTrue (aloneTests (mostBy k) now next k c)
-        ≡ allTrue (claimFits next c ∷ allTrue (fieldTests now k c) ∷ ownFits f k (c .error) ∷ [])
+    kind-is : (k : Kind) → allTrue (aloneTests (mostBy k) now next k c) ≡ lawful k
     kind-is (sets a) = write-is now next c (valueFits a (c .value)) (attr f a .limit) (limit-in a)
     kind-is (adds a) = write-is now next c (leb (size (c .value)) mostValue) (attr f a .limit) (limit-in a)
-    kind-is (reads m) = read-is now next c
+    kind-is (reads m) = read-is now next c (eqb (size (c .value)) 0)
 
-    -- A method that there is not fails, whatever its error may be.
+    -- An unknown method fails, whatever its error may be.
     row-is : allTrue (aloneTests (getD most (c .method) 0) now next kind c) ≡ allTrue (aloneTests (mostBy kind) now next kind c)
     row-is = by (ltb (c .method) 7) refl
       where
@@ -247,14 +223,33 @@ module _ (f : Figures) (now next : ℕ) (h : figuresFit f now next ≡ true) whe
         by true e = rw (most-at (c .method) (ltb-true (c .method) 7 e))
         by false e = rw e
 
-    alone-is : aloneFits most now next c ≡ allTrue (claimFits next c ∷ fieldsFit ∷ own ∷ [])
+    alone-is : aloneFits most now next c ≡ lawful kind
     unfolding aloneFits
     alone-is = row-is ∙ kind-is kind
 
     pub active-is : activeBy most now next c ≡ activeFits f now next c
-    unfolding activeBy activeFits toldFits
-    active-is = (λ i. alone-is i && told-is now next c kind i) ∙ sym (last-of (claimFits next c) fieldsFit own (toldFits c))
+    unfolding activeBy activeFits
+    active-is = (λ i. alone-is i && told-is now next c kind i) ∙ and-comm (lawful kind) (allTrue (bareBy kind c ∷ readingBy kind c ∷ [])) ∙ last (bareBy kind c)
+      where
+        last : (b : Bool) → (allTrue (b ∷ readingBy kind c ∷ []) && lawful kind) ≡ (b && (readingBy kind c && lawful kind))
+        last true = ap (λ (r : Bool). r && lawful kind) (and-true (readingBy kind c))
+        last false = refl
 
     pub waiting-is : waitingBy most now next c ≡ waitingFits f now next c
     unfolding waitingBy waitingFits
-    waiting-is = ap (λ (b : Bool). b && bare c) alone-is ∙ sym (last-of (claimFits next c) fieldsFit own (bare c))
+    waiting-is = ap (λ (b : Bool). b && bare c) alone-is ∙ and-comm (lawful kind) (bare c)
+
+-- What an active claim adds is in range.
+pub add-most : (f : Figures) (now next : ℕ) (c : Claim) → activeFits f now next c ≡ true → addOf c ≤ mostValue
+unfolding activeFits addOf
+add-most f now next c h =
+    let t = passed (map (λ p. p c) (activeRow f now next)) h in
+    go (kindOf diskTable c)
+    (by-pass (past now next c) (allTrue (fieldTests now (kindOf diskTable c) c)) (ownFits f (kindOf diskTable c) (c .error)) (t .1 .1 .1 .1 .1 .1 .0) .1)
+  where
+    go : (k : Kind) → allTrue (fieldTests now k c) ≡ true → cond (addsTo a1 k) (size (c .value)) 0 ≤ mostValue
+    go (sets a) e = omega arith
+    go (adds a0) e = omega arith
+    go (adds a1) e = leb-true (size (c .value)) mostValue (passed (fieldTests now (adds a1) c) e .0)
+    go (adds a2) e = omega arith
+    go (reads m) e = omega arith

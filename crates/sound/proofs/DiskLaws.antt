@@ -1,92 +1,103 @@
--- Laws of the disk that a part decodes to: its counts and claims as the code reads them, and that its tests in their order
--- are the law's "Sound".
-use Prim.Native.Nat.{ℕ, _+_, _<_}
-use mathlib.Core.Bool.{true}
-use mathlib.Core.List.{List}
-use mathlib.Core.Path.{_≡_, refl, sym, ap, _∙_}
+-- Laws of the disk that a part holds: its claims as the code reads them, and what is seen of the whole.
+use Prim.Native.Nat.{ℕ, _+_, _≤_, _<_}
+use mathlib.Core.Bool.{true, false}
+use mathlib.Core.List.{List, _∷_}
+use mathlib.Core.Path.{_≡_, sym, _∙_}
 use native.Mathlib.Omega.{arith}
-use lib.ListN.{length, take, getD, length-append, List·getD-append}
+use lib.ListN.{length, drop, getD, length-append, List·getD-append}
 use lib.Seq.{getD-take, getD-append-add}
-use Rattle.num.specs.Word.{wordAt}
 use Rattle.law.specs.declared.Claim.{Claim}
 use Rattle.law.specs.Base.{allTrue}
-use Rattle.law.specs.Lists.{all-at}
 use Rattle.law.specs.Sound.{claimsOn, sound}
 use Rattle.law.specs.DiskType.{diskTable}
 use Rattle.rules.specs.Rows.{noClaim}
 use Rattle.rules.specs.RowLaws.{row-length}
-use Rattle.rules.specs.declared.disk.Disk.{Disk}
-use Rattle.rules.specs.Disks.{diskOf, Good}
-use Rattle.part.specs.Layout.{decode, decodes}
+use Rattle.rules.specs.declared.totals.Totals.{Totals}
+use Rattle.rules.specs.Totals.{totalsOf}
+use Rattle.rules.specs.Disks.{figuresIn, Good}
+use Rattle.part.specs.Layout.{decode}
 use Rattle.part.specs.LayoutLaws.{decode-good}
-use Rattle.sound.specs.Tests.{eachActive, codeTests}
-use Rattle.sound.proofs.SoundLaws.{sound-is, methods-there}
+use Rattle.part.specs.Held.{held, HoldsDisk}
+use Rattle.sound.specs.Tests.{activeFits, waitingFits, activeBy, waitingBy, codeTests}
+use Rattle.sound.specs.Seen.{Ready, noneSeen, seenOf}
+use Rattle.sound.proofs.WalkLaws.{turn}
+use Rattle.sound.proofs.AloneLaws.{active-is, waiting-is}
+use Rattle.sound.proofs.SoundLaws.{sound-is}
 
--- The claims of a disk.
-abbrev pub actives : Disk → List Claim
-actives d = take (d .actives) (d .active)
+-- The claims of a part.
+abbrev pub actives : List ℕ → List Claim
+actives s = held s .core .active
 
-abbrev pub waitings : Disk → List Claim
-waitings d = take (d .waitings) (d .waiting)
+abbrev pub waitings : List ℕ → List Claim
+waitings s = held s .waiting
 
--- The words of a part.
-pub clock-read : (s : List ℕ) → wordAt s 0 ≡ decode s .clock
-unfolding decode
-clock-read s = refl
+abbrev pub claims : List ℕ → List Claim
+claims s = claimsOn (held s)
 
-pub next-read : (s : List ℕ) → wordAt s 4 ≡ decode s .next
-unfolding decode
-next-read s = refl
+module _ {s : List ℕ} (h : HoldsDisk s) where
+  good : Good (decode s)
+  good = decode-good s (h .long) (h .whole)
 
-pub actives-read : (s : List ℕ) → wordAt s 8 ≡ decode s .actives
-unfolding decode
-actives-read s = refl
+  -- How many there are.
+  pub some-active : decode s .actives ≡ length (actives s)
+  some-active = sym (row-length (good .active))
 
-pub waitings-read : (s : List ℕ) → wordAt s 12 ≡ decode s .waitings
-unfolding decode
-waitings-read s = refl
+  pub few-active : length (actives s) ≤ 8
+  few-active = omega (arith, some-active, good .active .few)
 
-module _ (s : List ℕ) (l : length s ≡ 768) (h : decodes s ≡ true) where
-  pub good : Good (decode s)
-  good = decode-good s l h
+  pub some-waiting : decode s .waitings ≡ length (waitings s)
+  some-waiting = sym (row-length (good .waiting))
 
-  pub some-active : length (actives (decode s)) ≡ decode s .actives
-  some-active = row-length (good .active)
+  pub few-waiting : length (waitings s) ≤ 8
+  few-waiting = omega (arith, some-waiting, good .waiting .few)
 
-  pub some-waiting : length (waitings (decode s)) ≡ decode s .waitings
-  some-waiting = row-length (good .waiting)
+  pub some-claims : length (claims s) ≡ decode s .actives + decode s .waitings
+  some-claims = omega (arith, length-append (actives s) (waitings s), some-active, some-waiting)
 
-  pub whole : allTrue (codeTests (diskOf (decode s))) ≡ sound diskTable (diskOf (decode s))
-  whole =
-      sound-is (diskOf (decode s)) (omega (arith, some-active, good .active .few))
-      (omega (arith, some-waiting, good .waiting .few))
+  pub few-claims : length (claims s) ≤ 16
+  few-claims = omega (arith, length-append (actives s) (waitings s), few-active, few-waiting)
 
-  -- Claim i of the active ones, and of the waiting ones.
-  pub active-stands : (i : ℕ) → i < decode s .actives → getD (decode s .active) i noClaim ≡ getD (actives (decode s)) i noClaim
-  active-stands i k = sym (getD-take (decode s .actives) (decode s .active) i noClaim k)
+  -- The claim read at an index.
+  pub active-stands : (i : ℕ) → i < length (actives s) → getD (decode s .active) i noClaim ≡ getD (actives s) i noClaim
+  active-stands i k = sym (getD-take (decode s .actives) (decode s .active) i noClaim (omega (arith, some-active)))
 
-  pub waiting-stands : (i : ℕ) → i < decode s .waitings → getD (decode s .waiting) i noClaim ≡ getD (waitings (decode s)) i noClaim
-  waiting-stands i k = sym (getD-take (decode s .waitings) (decode s .waiting) i noClaim k)
+  pub waiting-stands : (i : ℕ) → i < length (waitings s) → getD (decode s .waiting) i noClaim ≡ getD (waitings s) i noClaim
+  waiting-stands i k = sym (getD-take (decode s .waitings) (decode s .waiting) i noClaim (omega (arith, some-waiting)))
 
-  -- Claim i of all: the active ones first.
-  pub some-claims : length (claimsOn (diskOf (decode s))) ≡ decode s .actives + decode s .waitings
-  some-claims = omega (arith, length-append (actives (decode s)) (waitings (decode s)), some-active, some-waiting)
+  -- Among all claims the active ones stand first.
+  pub active-on : (i : ℕ) → i < length (actives s) → getD (decode s .active) i noClaim ≡ getD (claims s) i noClaim
+  active-on i k = active-stands i k ∙ sym (List·getD-append (actives s) (waitings s) noClaim i k)
 
-  pub active-on : (i : ℕ) → i < decode s .actives →
-      getD (decode s .active) i noClaim ≡ getD (claimsOn (diskOf (decode s))) i noClaim
-  active-on i k =
-      active-stands i k ∙ sym (List·getD-append (actives (decode s)) (waitings (decode s)) noClaim i (omega (arith, some-active)))
+  pub waiting-on : (i : ℕ) → i < length (waitings s) →
+      getD (decode s .waiting) i noClaim ≡ getD (claims s) (length (actives s) + i) noClaim
+  waiting-on i k = waiting-stands i k ∙ sym (getD-append-add (actives s) (waitings s) i noClaim)
 
-  pub waiting-on : (k : ℕ) → k < decode s .waitings →
-      getD (decode s .waiting) k noClaim ≡ getD (claimsOn (diskOf (decode s))) (decode s .actives + k) noClaim
-  waiting-on k g =
-      waiting-stands k g
-      ∙ sym (getD-append-add (actives (decode s)) (waitings (decode s)) k noClaim)
-      ∙ ap (λ (n : ℕ). getD (claimsOn (diskOf (decode s))) (n + k) noClaim) some-active
+  -- A turn of a walk: the claim read, and those behind it.
+  pub active-turn : (i j : ℕ) {x : Claim} → i + 1 ≡ j → i < length (actives s) → x ≡ getD (decode s .active) i noClaim →
+      drop i (actives s) ≡ x ∷ drop j (actives s)
+  active-turn i j n k e = turn (actives s) i j n k (e ∙ active-stands i k)
 
-  -- The method of an active claim that fits.
-  pub method-there : eachActive (diskOf (decode s)) ≡ true → (i : ℕ) → i < decode s .actives →
-      getD (decode s .active) i noClaim .method < 7
-  method-there e i k =
-      rw (active-stands i k)
-      (all-at (λ c. c .method < 7) (actives (decode s)) noClaim i (omega (arith, some-active)) (methods-there (diskOf (decode s)) e))
+  pub waiting-turn : (i j : ℕ) {x : Claim} → i + 1 ≡ j → i < length (waitings s) → x ≡ getD (decode s .waiting) i noClaim →
+      drop i (waitings s) ≡ x ∷ drop j (waitings s)
+  waiting-turn i j n k e = turn (waitings s) i j n k (e ∙ waiting-stands i k)
+
+  -- The tests in their order are the law's "Sound", so where one fails nothing is seen, and where all pass the totals are.
+  whole : allTrue (codeTests (held s)) ≡ sound diskTable (held s)
+  whole = sound-is (held s) few-active few-waiting
+
+  pub seen-not : false ≡ allTrue (codeTests (held s)) → noneSeen ≡ seenOf (held s)
+  unfolding seenOf
+  seen-not e = rw (← whole, ← e)
+
+  pub seen-all : {t : Totals} → t ≡ totalsOf (actives s) → allTrue (codeTests (held s)) ≡ true →
+      record { ok = true; totals = t } ≡ seenOf (held s)
+  unfolding seenOf
+  seen-all q e = rw (← whole, e, q)
+
+-- The test of a claim with the bounds read is that with the disk's figures.
+module _ {s most : List ℕ} (r : Ready s most) (clock next : ℕ) (p : clock ≡ decode s .clock) (q : next ≡ decode s .next) (c : Claim) where
+  pub active-by : activeBy most clock next c ≡ activeFits (figuresIn (decode s)) (decode s .clock) (decode s .next) c
+  active-by = (λ i. activeBy (r .row i) (p i) (q i) c) ∙ active-is (figuresIn (decode s)) (decode s .clock) (decode s .next) (r .figures) c
+
+  pub waiting-by : waitingBy most clock next c ≡ waitingFits (figuresIn (decode s)) (decode s .clock) (decode s .next) c
+  waiting-by = (λ i. waitingBy (r .row i) (p i) (q i) c) ∙ waiting-is (figuresIn (decode s)) (decode s .clock) (decode s .next) (r .figures) c

@@ -1,7 +1,7 @@
 pub mod TestLaws
 pub mod WalkLaws
 pub mod AloneLaws
-pub mod TicketMaskLaws
+pub mod MarkLaws
 pub mod MeetLaws
 pub mod SoundLaws
 pub mod DiskLaws

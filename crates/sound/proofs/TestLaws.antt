@@ -1,22 +1,27 @@
 -- Laws of the tests in their order: where one fails, all together fail; where all but the last pass, the last decides.
 use Prim.Native.Nat.{ℕ, zero, suc, _≤_, _<_}
-use mathlib.Core.Bool.{Bool, true, false, _&&_, and-false}
+use mathlib.Core.Bool.{Bool, true, false, not, _&&_, and-false}
 use mathlib.Core.List.{List, [], _∷_, _++_}
 use mathlib.Core.Path.{_≡_, refl, sym, ap, _∙_}
 use native.Mathlib.Omega.{arith}
-use borrow.Author.Tests.{le-leb, lt-leb}
+use borrow.Author.Tests.{ltb-true, le-leb, lt-leb, not-true, not-false}
 use lib.Dec.{leb}
-use lib.IntN.{ℤ, pos}
+use lib.IntN.{ℤ, pos, negsuc}
 use lib.ListN.{getD}
 use lib.Signed.{ltZ}
 use Rattle.num.specs.Metric.{size}
 use Rattle.law.specs.Base.{allTrue}
-use Rattle.law.specs.Lists.{Passed}
+use Rattle.law.specs.Lists.{Passed, never-true}
 use Rattle.law.specs.Types.{mostState, a2}
 use Rattle.law.specs.Calls.{valueFits}
-use Rattle.law.specs.DiskType.{diskTable}
 use Rattle.rules.proofs.EntryLaws.{last-test}
-use Rattle.rules.proofs.CallLaws.{state-below, state-from}
+
+-- What a call answers that the code tests by `!`: it failed, or it passed.
+pub failed : {r b : Bool} → r ≡ b → not r ≡ true → b ≡ false
+failed {r} e h = sym e ∙ not-true r h
+
+pub went : {r b : Bool} → r ≡ b → not r ≡ false → b ≡ true
+went {r} e h = sym e ∙ not-false r h
 
 -- The test at place k fails.
 pub test-fails : (bs : List Bool) (k : ℕ) → getD bs k true ≡ false → false ≡ allTrue bs
@@ -32,12 +37,12 @@ test-last (x ∷ bs) b h = rw (h .0) (test-last bs b (h .1))
 -- ---- the state
 
 pub code-below : (z : ℤ) → ltZ z (pos 0) ≡ true → valueFits a2 z ≡ false
-unfolding diskTable
-code-below z h = sym (state-below 3 z refl h)
+code-below (pos n) h = absurd (omega (arith, ltb-true n 0 h))
+code-below (negsuc n) h = refl
 
 pub code-from : (z : ℤ) → ltZ z (pos 0) ≡ false → valueFits a2 z ≡ leb (size z) mostState
-unfolding diskTable
-code-from z h = sym (state-from 3 z refl h)
+code-from (pos n) h = refl
+code-from (negsuc n) h = never-true _ (sym h)
 
 -- ---- a number against the most that it may be, both as the code has them
 

@@ -1,20 +1,20 @@
--- Laws of the walks: a turn over every two claims and over neighbours, its failure, and the end; and that claims of which
+-- Laws of the walks: a turn over each claim, over every two and over neighbours, its failure, and the end; and that claims of which
 -- each stands before its neighbour stand in the pass's order.
-use Prim.Native.Nat.{ℕ, _+_, _≤_, _<_}
+use Prim.Native.Nat.{ℕ, _+_, _-_, _≤_, _<_}
 use mathlib.Core.Bool.{Bool, true, false, cond, _&&_, _||_}
-use mathlib.Core.List.{List, [], _∷_}
+use mathlib.Core.List.{List, [], _∷_, _++_, map}
 use mathlib.Core.Path.{_≡_, refl, sym, ap, _∙_}
 use native.Mathlib.Omega.{arith}
-use borrow.Author.Tests.{ltb-true, ltb-false, lt-ltb, eqb-true, eq-eqb}
+use borrow.Author.Tests.{ltb-true, lt-ltb, eqb-true, eq-eqb}
 use lib.Dec.{ltb, eqb}
-use lib.ListN.{length, drop, getD, drop-of-length-le}
+use lib.ListN.{length, drop, getD, drop-of-length-le, length-drop}
 use lib.Seq.{drop-cons}
 use native.Mathlib.Numerals.{add-one}
 use Rattle.law.specs.declared.Claim.{Claim}
-use Rattle.law.specs.Base.{everyOf, everyPair, All, Pairs}
+use Rattle.law.specs.Base.{allTrue, everyOf, everyPair, Pairs}
 use Rattle.law.specs.Calls.{before}
 use Rattle.law.specs.Lists.{all-say, never-true, and-left, and-right}
-use Rattle.law.specs.Says.{Says, says-every, says-pairs, says-self}
+use Rattle.law.specs.Says.{Says, says-pairs, says-self}
 use Rattle.rules.specs.Rows.{noClaim}
 
 -- Two tests of which each passes where the other does are equal.
@@ -23,51 +23,65 @@ same-test true b f g = sym (f refl)
 same-test false true f g = g refl
 same-test false false f g = refl
 
--- What a claim that is read answers, the claim that stands there answers.
-pub there : (p : Claim → Bool) {x y : Claim} {b : Bool} → x ≡ y → p x ≡ b → p y ≡ b
-there p e h = ap p (sym e) ∙ h
+-- ---- tests of every claim
+
+pub every-true : (xs : List Claim) → everyOf (λ x. true) xs ≡ true
+every-true [] = refl
+every-true (x ∷ xs) = every-true xs
+
+pub every-and : (p q : Claim → Bool) (xs : List Claim) → everyOf (λ x. p x && q x) xs ≡ (everyOf p xs && everyOf q xs)
+every-and p q [] = refl
+every-and p q (x ∷ xs) = rw (every-and p q xs) (swap (p x) (q x) (everyOf p xs) (everyOf q xs))
+  where
+    swap : (a b y z : Bool) → ((a && b) && (y && z)) ≡ ((a && y) && (b && z))
+    swap false b y z = refl
+    swap true true y z = refl
+    swap true false true z = refl
+    swap true false false z = refl
+
+-- Tests that each claim passes in a row, every claim passes one by one.
+pub rows : (ps : List (Claim → Bool)) (xs : List Claim) → everyOf (λ x. allTrue (map (λ p. p x) ps)) xs ≡ allTrue (map (λ p. everyOf p xs) ps)
+rows [] xs = every-true xs
+rows (p ∷ ps) xs = every-and p (λ x. allTrue (map (λ q. q x) ps)) xs ∙ ap (λ (b : Bool). everyOf p xs && b) (rows ps xs)
+
+-- Two lists pass where both do.
+pub every-join : (p : Claim → Bool) (xs ys : List Claim) → (everyOf p xs && everyOf p ys) ≡ everyOf p (xs ++ ys)
+every-join p [] ys = refl
+every-join p (x ∷ xs) ys = first (p x) (every-join p xs ys)
+  where
+    first : (b : Bool) → (everyOf p xs && everyOf p ys) ≡ everyOf p (xs ++ ys) →
+        ((b && everyOf p xs) && everyOf p ys) ≡ (b && everyOf p (xs ++ ys))
+    first true e = e
+    first false e = refl
 
 -- ---- what they say
-
-pub says-all : {A : Type 0} (p : A → Bool) (xs : List A) → Says (everyOf p xs) (All (λ x. p x ≡ true) xs)
-says-all p xs = says-every {p = p} {P = λ x. p x ≡ true} (λ x. says-self (p x)) xs
 
 pub says-two-by-two : {A : Type 0} (r : A → A → Bool) (xs : List A) → Says (everyPair r xs) (Pairs (λ x y. r x y ≡ true) xs)
 says-two-by-two r xs = says-pairs {r = r} {R = λ x y. r x y ≡ true} (λ x y. says-self (r x y)) xs
 
--- ---- a turn at place i of any list
+-- ---- a turn at index i of any list: the claim there, and those behind it; and the end
 
 module _ (xs : List Claim) (i : ℕ) where
-  -- What is left, and the end.
-  pub rest-on : i < length xs → drop i xs ≡ getD xs i noClaim ∷ drop (i + 1) xs
-  rest-on h = drop-cons xs i noClaim h ∙ rw (add-one i)
+  pub turn : (j : ℕ) {x : Claim} → i + 1 ≡ j → i < length xs → x ≡ getD xs i noClaim → drop i xs ≡ x ∷ drop j xs
+  turn j n h e = drop-cons xs i noClaim h ∙ rw (← add-one i, n, e)
 
-  pub rest-end : length xs ≤ i → drop i xs ≡ []
-  rest-end h = drop-of-length-le xs {i = i} h
+  pub none-left : length xs ≤ i → drop i xs ≡ []
+  none-left h = drop-of-length-le xs {i = i} h
 
-  -- Of each claim.
-  module _ (p : Claim → Bool) where
-    pub each-on : i < length xs → p (getD xs i noClaim) ≡ true → everyOf p (drop (i + 1) xs) ≡ everyOf p (drop i xs)
-    each-on h e = rw (rest-on h, e)
+-- ---- what a turn leaves to test, where the claim x passes and where it fails
 
-    pub each-not : i < length xs → p (getD xs i noClaim) ≡ false → false ≡ everyOf p (drop i xs)
-    each-not h e = rw (rest-on h, e)
+module _ {xs rest : List Claim} {x : Claim} (e : xs ≡ x ∷ rest) where
+  pub each-on : (p : Claim → Bool) → p x ≡ true → everyOf p rest ≡ everyOf p xs
+  each-on p h = rw (e, h)
 
-    pub each-end : length xs ≤ i → true ≡ everyOf p (drop i xs)
-    each-end h = rw (rest-end h)
+  pub each-not : (p : Claim → Bool) → p x ≡ false → everyOf p xs ≡ false
+  each-not p h = rw (e, h)
 
-  -- Of every two.
-  module _ (r : Claim → Claim → Bool) where
-    pub pairs-on : i < length xs → everyOf (r (getD xs i noClaim)) (drop (i + 1) xs) ≡ true →
-        everyPair r (drop (i + 1) xs) ≡ everyPair r (drop i xs)
-    pairs-on h e = rw (rest-on h, e)
+  pub pairs-on : (r : Claim → Claim → Bool) → everyOf (r x) rest ≡ true → everyPair r rest ≡ everyPair r xs
+  pairs-on r h = rw (e, h)
 
-    pub pairs-not : i < length xs → everyOf (r (getD xs i noClaim)) (drop (i + 1) xs) ≡ false →
-        false ≡ everyPair r (drop i xs)
-    pairs-not h e = rw (rest-on h, e)
-
-    pub pairs-end : length xs ≤ i → true ≡ everyPair r (drop i xs)
-    pairs-end h = rw (rest-end h)
+  pub pairs-not : (r : Claim → Claim → Bool) → everyOf (r x) rest ≡ false → everyPair r xs ≡ false
+  pairs-not r h = rw (e, h)
 
 -- ---- neighbours
 
@@ -77,27 +91,24 @@ neighbours r [] = true
 neighbours r (x ∷ []) = true
 neighbours r (x ∷ y ∷ zs) = r x y && neighbours r (y ∷ zs)
 
--- At place j, with i the next one.
-module _ (r : Claim → Claim → Bool) (xs : List Claim) (j i : ℕ) (e : j + 1 ≡ i) where
-  next-turn : i < length xs →
-      neighbours r (drop j xs) ≡ (r (getD xs j noClaim) (getD xs i noClaim) && neighbours r (drop i xs))
+module _ (r : Claim → Claim → Bool) {xs ys zs : List Claim} {x y : Claim} (e : xs ≡ x ∷ ys) (g : ys ≡ y ∷ zs) where
+  pub next-on : r x y ≡ true → neighbours r ys ≡ neighbours r xs
   unfolding neighbours
-  next-turn h = rw (rest-on xs j (omega arith), e, rest-on xs i h)
+  next-on h = rw (e, g, h)
 
-  pub next-on : i < length xs → r (getD xs j noClaim) (getD xs i noClaim) ≡ true →
-      neighbours r (drop i xs) ≡ neighbours r (drop j xs)
-  next-on h q = rw (next-turn h, q)
-
-  pub next-not : i < length xs → r (getD xs j noClaim) (getD xs i noClaim) ≡ false → false ≡ neighbours r (drop j xs)
-  next-not h q = rw (next-turn h, q)
-
-  last-one : (b : Bool) → ltb j (length xs) ≡ b → length xs ≤ i → true ≡ neighbours r (drop j xs)
+  pub next-not : r x y ≡ false → neighbours r xs ≡ false
   unfolding neighbours
-  last-one true q h = rw (rest-on xs j (ltb-true j (length xs) q), rest-end xs (j + 1) (omega arith))
-  last-one false q h = rw (rest-end xs j (ltb-false j (length xs) q))
+  next-not h = rw (e, g, h)
 
-  pub next-end : length xs ≤ i → true ≡ neighbours r (drop j xs)
-  next-end h = last-one (ltb j (length xs)) refl h
+-- The last of them, and none, have no neighbour.
+pub next-end : (r : Claim → Claim → Bool) (xs : List Claim) (i : ℕ) → length xs ≤ i + 1 → neighbours r (drop i xs) ≡ true
+unfolding neighbours
+next-end r xs i h = go (drop i xs) (length-drop i xs)
+  where
+    go : (ys : List Claim) → length ys ≡ length xs - i → neighbours r ys ≡ true
+    go [] q = refl
+    go (y ∷ []) q = refl
+    go (y ∷ z ∷ zs) q = absurd (omega arith)
 
 -- ---- the pass's order
 

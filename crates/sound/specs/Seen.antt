@@ -1,52 +1,60 @@
--- What the walks over the claims gather in masks, and what they hand on.
+-- What the test gathers on its way and hands on: the marks of tickets, and what it has seen of the whole disk.
 use Prim.Native.Nat.{ℕ, _%_, _^_}
-use mathlib.Core.Bool.{Bool, true, not, _&&_, _||_}
+use mathlib.Core.Bool.{true, false, cond}
 use mathlib.Core.List.{List, [], _∷_}
 use mathlib.Core.Path.{_≡_}
-use lib.Bits.{bitOr}
-use Rattle.num.specs.Bits.{hasBit}
+use lib.Bits.{bitAnd, bitOr}
 use Rattle.law.specs.declared.Claim.{Claim}
-use Rattle.law.specs.Base.{sumOf}
 use Rattle.law.specs.Types.{Disk as LawDisk}
-use Rattle.law.specs.Sound.{claimsOn}
-use Rattle.rules.specs.Pairs.{addOf}
-use Rattle.rules.specs.Masks.{methodsOf, twiceOf, shares}
+use Rattle.law.specs.Sound.{sound}
+use Rattle.law.specs.DiskType.{diskTable}
+use Rattle.rules.specs.Methods.{mostErrors}
+use Rattle.rules.specs.Totals.{noTotals, totalsOf}
+use Rattle.part.specs.Layout.{decode}
+use Rattle.part.specs.Held.{held, HoldsDisk}
+use Rattle.sound.specs.declared.tickets.Marks.{Marks}
+use Rattle.sound.specs.declared.Seen.{Seen}
+use Rattle.sound.specs.Tests.{figuresOn}
 
--- ---- tickets
+-- ---- the marks of tickets
 
 -- The bit of a claim's ticket: its last six.
 abbrev pub bitOf : Claim → ℕ
 bitOf c = c .ticket % 64
 
--- The claims meet no bit of a mask, in which each sets its own.
-unfoldable pub free : ℕ → List Claim → Bool
-free mask [] = true
-free mask (c ∷ cs) = not (hasBit mask (bitOf c)) && free (bitOr mask (2 ^ bitOf c)) cs
+abbrev pub noMarks : Marks
+noMarks = record { met = 0; again = 0 }
 
--- ---- methods
+-- The marks with one claim more: a bit that has been met is met again.
+unfoldable pub withTicket : Marks → Claim → Marks
+withTicket m c = record { met = bitOr (m .met) (2 ^ bitOf c); again = bitOr (m .again) (bitAnd (m .met) (2 ^ bitOf c)) }
 
--- Among claims with these methods, and these twice, there may be two with entry N: an AddPromised (bit 1) beside a SetPromised
--- (bit 2), or a SetState (bit 3) beside a ReadState (bit 6) or beside another.
-abbrev pub mayClash : ℕ → ℕ → Bool
-mayClash methods twice =
-    shares methods 2 && shares methods 4 || shares methods 8 && (shares methods 64 || shares twice 8)
+-- The marks of claims, added to others.
+unfoldable pub marksFrom : Marks → List Claim → Marks
+marksFrom m [] = m
+marksFrom m (c ∷ cs) = marksFrom (withTicket m c) cs
 
--- ---- what is handed on
+abbrev pub marksOf : List Claim → Marks
+marksOf cs = marksFrom noMarks cs
 
--- To the decision: the sum of |d| over the active adds, the methods of the active claims, and those that more than one has.
-abbrev pub SeenIs : ℕ → ℕ → ℕ → LawDisk → Type 0
-SeenIs adds methods twice d =
-    (adds ≡ sumOf addOf (d .core .active)) × (methods ≡ methodsOf (d .core .active)) × (twice ≡ twiceOf (d .core .active))
+-- ---- what a walk over claims starts from
 
--- Of a disk that is not sound, nothing.
-abbrev pub Nothing : ℕ → ℕ → ℕ → Type 0
-Nothing adds methods twice = (adds ≡ 0) × (methods ≡ 0) × (twice ≡ 0)
+-- How large the error of each method may be on the disk of a part.
+abbrev pub mostIn : List ℕ → List ℕ
+mostIn s = mostErrors (decode s .used .limit) (decode s .promised .limit)
 
--- To the walk over the waiting claims: a mask of tickets with which, as long as none has been met again, it decides whether
--- the claims of the disk meet none.
-abbrev pub Onward : ℕ → ℕ → LawDisk → Type 0
-Onward tickets again d = again ≡ 0 → free tickets (d .waiting) ≡ free 0 (claimsOn d)
+-- A part that holds a disk whose figures fit, and the row of the largest errors.
+pub record Ready (s most : List ℕ) : Type 0 where
+  pub disk : HoldsDisk s
+  pub figures : figuresOn (held s) ≡ true
+  pub row : most ≡ mostIn s
 
--- From it, where it has met none: it was handed none, and the waiting claims meet none of the mask's.
-abbrev pub Unmet : ℕ → ℕ → LawDisk → Type 0
-Unmet tickets again d = (again ≡ 0) × (free tickets (d .waiting) ≡ true)
+-- ---- the whole
+
+-- What is seen of a disk that is not sound, and of any disk.
+abbrev pub noneSeen : Seen
+noneSeen = record { ok = false; totals = noTotals }
+
+unfoldable pub seenOf : LawDisk → Seen
+seenOf d =
+    record { ok = sound diskTable d; totals = cond (sound diskTable d) (totalsOf (d .core .active)) noTotals }

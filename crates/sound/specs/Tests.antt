@@ -1,8 +1,8 @@
 -- What the code tests of a disk, in its own order: its figures, its active claims, its waiting ones. The tests of single
 -- claims and attributes are the law's.
 use Prim.Native.Nat.{ℕ, _+_}
-use mathlib.Core.Bool.{Bool, true, false, cond, not}
-use mathlib.Core.List.{List, [], _∷_, _++_}
+use mathlib.Core.Bool.{Bool, cond, not}
+use mathlib.Core.List.{List, [], _∷_, _++_, map}
 use lib.Dec.{leb, ltb, eqb}
 use lib.IntN.{ℤ}
 use lib.ListN.{getD}
@@ -13,10 +13,10 @@ use Rattle.law.specs.declared.Claim.{Claim}
 use Rattle.law.specs.Base.{allTrue, everyOf, everyPair, sumOf}
 use Rattle.law.specs.Types.{mostValue, mostError, mostState, mostPriority, mostFlag, lastTicket, Attribute, a0, a1, a2, Kind, sets, adds, reads, Figures, attr, Disk as LawDisk}
 use Rattle.law.specs.Entries.{kindOf, entry, isNever}
-use Rattle.law.specs.Calls.{valueFits, fieldTests, ownFits, before}
-use Rattle.law.specs.Sound.{bare, bareBy, readingBy, limitFits, claimsOn}
+use Rattle.law.specs.Calls.{valueFits, before}
+use Rattle.law.specs.Sound.{bare, bareBy, readingBy, limitFits, formed, passes, claimsOn}
 use Rattle.law.specs.DiskType.{diskTable}
-use Rattle.rules.specs.Methods.{isReading}
+use Rattle.rules.specs.Methods.{isReading, setsState}
 use Rattle.rules.specs.Pairs.{addOf}
 
 -- ---- figures
@@ -42,43 +42,30 @@ figuresTests f now next = figuresFront f now next ++ (figureFits a2 now (f .f2) 
 unfoldable pub figuresFit : Figures → ℕ → ℕ → Bool
 figuresFit f now next = allTrue (figuresTests f now next)
 
--- ---- a claim by itself
+-- ---- a claim by itself, as the law tests it: in rows, one test behind the other
 
--- Priority, flag and ticket in range; then the method (16).
-abbrev pub claimFront : ℕ → Claim → List Bool
-claimFront next c = leb (c .priority) mostPriority ∷ leb (c .flag) mostFlag ∷ leb 1 (c .ticket) ∷ ltb (c .ticket) next ∷ []
+-- Wherever it stands, 16 to 18 last.
+abbrev pub everywhere : Figures → ℕ → ℕ → List (Claim → Bool)
+everywhere f now next =
+    formed
+    ∷ (λ c. leb (c .measured) now)
+    ∷ (λ c. leb 1 (c .ticket))
+    ∷ (λ c. ltb (c .ticket) next)
+    ∷ passes diskTable f now
+    ∷ []
 
-abbrev pub claimTests : ℕ → Claim → List Bool
-claimTests next c = claimFront next c ++ (ltb (c .method) 7 ∷ [])
+-- An active claim, with its told and amount, and a waiting one, which has neither.
+abbrev pub activeRow : Figures → ℕ → ℕ → List (Claim → Bool)
+activeRow f now next = (λ c. bareBy (kindOf diskTable c) c) ∷ (λ c. readingBy (kindOf diskTable c) c) ∷ everywhere f now next
 
-unfoldable pub claimFits : ℕ → Claim → Bool
-claimFits next c = allTrue (claimTests next c)
-
--- That, and the tests of 17 and 18.
-abbrev pub passTests : Figures → ℕ → ℕ → Claim → List Bool
-passTests f now next c =
-    claimFits next c ∷ allTrue (fieldTests now (kindOf diskTable c) c) ∷ ownFits f (kindOf diskTable c) (c .error) ∷ []
-
--- Told and amount of an active claim.
-abbrev pub toldTests : Claim → List Bool
-toldTests c = bareBy (kindOf diskTable c) c ∷ readingBy (kindOf diskTable c) c ∷ []
-
-unfoldable pub toldFits : Claim → Bool
-toldFits c = allTrue (toldTests c)
-
--- An active claim.
-abbrev pub activeTests : Figures → ℕ → ℕ → Claim → List Bool
-activeTests f now next c = passTests f now next c ++ (toldFits c ∷ [])
+abbrev pub waitingRow : Figures → ℕ → ℕ → List (Claim → Bool)
+waitingRow f now next = bare ∷ everywhere f now next
 
 unfoldable pub activeFits : Figures → ℕ → ℕ → Claim → Bool
-activeFits f now next c = allTrue (activeTests f now next c)
-
--- A waiting claim.
-abbrev pub waitingTests : Figures → ℕ → ℕ → Claim → List Bool
-waitingTests f now next c = passTests f now next c ++ (bare c ∷ [])
+activeFits f now next c = allTrue (map (λ p. p c) (activeRow f now next))
 
 unfoldable pub waitingFits : Figures → ℕ → ℕ → Claim → Bool
-waitingFits f now next c = allTrue (waitingTests f now next c)
+waitingFits f now next c = allTrue (map (λ p. p c) (waitingRow f now next))
 
 -- ---- a claim by itself as the code tests it: each field against the most that its kind may have
 
@@ -88,34 +75,17 @@ ifReading k reading write = cond (isReading k) reading write
 
 -- How large its value may be; a reading has none.
 abbrev pub mostValueBy : Kind → ℕ
-mostValueBy (sets a0) = mostValue
-mostValueBy (sets a1) = mostValue
-mostValueBy (sets a2) = mostState
-mostValueBy (adds a) = mostValue
-mostValueBy (reads m) = 0
+mostValueBy k = cond (isReading k) 0 (cond (setsState k) mostState mostValue)
 
--- It sets the state.
-abbrev pub isStateSet : Kind → Bool
-isStateSet (sets a0) = false
-isStateSet (sets a1) = false
-isStateSet (sets a2) = true
-isStateSet (adds a) = false
-isStateSet (reads m) = false
-
--- How large its value is: of a state its word, so that one below 0 is far above any state.
+-- How large its value is: a state as its word, so that a negative one is far above any state.
 abbrev pub valueSizeBy : Kind → ℤ → ℕ
-valueSizeBy k z = cond (isStateSet k) (wordOf z) (size z)
+valueSizeBy k z = cond (setsState k) (wordOf z) (size z)
 
 -- Its value is in range, as 17 has it. (AloneLaws: of 32 bits, where it is not larger than it may be.)
 abbrev pub valueIn : Kind → ℤ → Bool
 valueIn (sets a) z = valueFits a z
 valueIn (adds a) z = leb (size z) mostValue
 valueIn (reads m) z = eqb (size z) 0
-
--- How large the error of each method may be, by the limits of used and promised: a write's is within the limit of what it
--- writes, which is 0 of the state; a reading's is its stated limit.
-abbrev pub mostErrors : ℕ → ℕ → List ℕ
-mostErrors used promised = used ∷ promised ∷ promised ∷ 0 ∷ mostError ∷ mostError ∷ mostError ∷ []
 
 -- What an active claim and a waiting one both pass where its error may be so large, 16 to 18 among it (AloneLaws); then the
 -- fresh flag.
@@ -168,7 +138,10 @@ apart x y = not (eqb (x .ticket) (y .ticket))
 abbrev pub meets : Claim → Claim → Bool
 meets x y = not (isNever (entry diskTable x y))
 
--- ---- the claims of a disk
+-- ---- the figures and the claims of a disk
+
+abbrev pub figuresOn : LawDisk → Bool
+figuresOn d = figuresFit (d .core .figures) (d .core .clock) (d .next)
 
 -- Each active claim by itself, and with each behind it; then |promised| with the |d| of the active adds.
 abbrev pub eachActive : LawDisk → Bool
@@ -199,14 +172,13 @@ ticketsDiffer d = everyPair apart (claimsOn d)
 
 -- ---- the whole
 
--- The figures, the active claims, the waiting ones; then the tickets. (SoundLaws: these together are the law's "Sound".)
-abbrev pub codeFront : LawDisk → List Bool
-codeFront d =
-    figuresFit (d .core .figures) (d .core .clock) (d .next)
-    ∷ activesFit d
-    ∷ waitingsFit d
-    ∷ everyPair before (d .waiting)
-    ∷ []
+-- Behind the active claims: the waiting ones, each by itself and in the pass's order; then the tickets of all.
+abbrev pub restFront : LawDisk → List Bool
+restFront d = waitingsFit d ∷ everyPair before (d .waiting) ∷ []
 
+abbrev pub restTests : LawDisk → List Bool
+restTests d = restFront d ++ (ticketsDiffer d ∷ [])
+
+-- The figures, the active claims, and the rest. (SoundLaws: these together are the law's "Sound".)
 abbrev pub codeTests : LawDisk → List Bool
-codeTests d = codeFront d ++ (ticketsDiffer d ∷ [])
+codeTests d = figuresOn d ∷ activesFit d ∷ allTrue (restTests d) ∷ []

@@ -1,31 +1,39 @@
-// A claim by itself: its ranges, 16 to 18, told and amount. What it may have depends on its method, and the code compares with the
-// most that the method allows: a number is chosen, not a way through the code, so the processor has no method to guess.
+// A claim by itself: its ranges, 16 to 18, told and amount. What a claim may have depends on its method: we select a bound, not a
+// branch, so nothing can be mispredicted.
 
 ghost use mathlib.Core.Path.{_≡_};
 ghost use lib.ListN.{length};
 ghost use Rattle.law.specs.Entries.{kindAt, kindOf};
 ghost use Rattle.law.specs.DiskType.{diskTable};
-ghost use Rattle.sound.specs.Tests.{ifReading, mostValueBy, valueSizeBy, mostErrors, aloneFits, activeBy, waitingBy};
+ghost use Rattle.part.specs.Held.{HoldsDisk};
+ghost use Rattle.sound.specs.Tests.{ifReading, mostValueBy, valueSizeBy, aloneFits, activeBy, waitingBy};
+ghost use Rattle.sound.specs.Seen.{mostIn};
 use law::Claim;
+use law::limits::MOST_ERROR;
+use law::limits::MOST_FLAG;
+use law::limits::MOST_PRIORITY;
+use law::limits::MOST_STATE;
+use law::limits::MOST_VALUE;
 use num::signed::size;
 use num::signed::to_word;
-use rules::method::METHODS;
+use part::read::promised_at;
+use part::read::used_at;
+use rules::method::is_known;
 use rules::method::is_reading;
+use rules::method::most_errors;
+use rules::method::sets_state;
 
-const MOST_VALUE: u32 = 1000000000;
+// How large the error of a claim of each method may be on the disk of a part, a row by method.
+pub fn most_in(s: &[u8]) -> [u32; 7]
+    requires { ⌜ HoldsDisk (now s) ⌝ }
+    ensures { λ r. ⌜ r ≡ mostIn (now (s .entry)) ⌝ }
+{
+    let used = used_at(s);
+    let promised = promised_at(s);
+    most_errors(used.limit, promised.limit)
+}
 
-const MOST_STATE: u32 = 255;
-
-const MOST_ERROR: u32 = 2000000000;
-
-const MOST_PRIORITY: u32 = 255;
-
-const MOST_FLAG: u32 = 1;
-
-// The methods below it write used and promised, those above read.
-const SET_STATE: u32 = 3;
-
-// One number of a reading, another of a write.
+// One number for a reading, another for a write.
 fn if_reading(m: u32, reading: u32, write: u32) -> u32
     ensures { λ r. ⌜ r ≡ ifReading (kindAt diskTable m) reading write ⌝ }
 {
@@ -36,48 +44,35 @@ fn if_reading(m: u32, reading: u32, write: u32) -> u32
 fn most_value(m: u32) -> u32
     ensures { λ r. ⌜ r ≡ mostValueBy (kindAt diskTable m) ⌝ }
 {
-    if m < SET_STATE {
-        MOST_VALUE
+    if is_reading(m) {
+        return 0;
+    }
+    if sets_state(m) {
+        MOST_STATE
     } else {
-        if m == SET_STATE { MOST_STATE } else { 0 }
+        MOST_VALUE
     }
 }
 
-// How large a value is: of a state its word, so that one below 0 is far above any state.
+// How large a value is: a state as its word, so that a negative one is far above any state.
 fn value_size(c: Claim) -> u32
     ensures { λ r. ⌜ r ≡ valueSizeBy (kindOf diskTable c) (c .value) ⌝ }
 {
-    if c.method == SET_STATE {
+    if sets_state(c.method) {
         to_word(c.value)
     } else {
         size(c.value)
     }
 }
 
-// How large the error of each method may be: a write's is within the limit of what it writes, which is 0 of the state; a reading's
-// is its stated limit.
-pub fn most_errors(used: u32, promised: u32) -> [u32; 7]
-    ensures { λ r. ⌜ r ≡ mostErrors used promised ⌝ }
-{
-    [
-        used,
-        promised,
-        promised,
-        0,
-        MOST_ERROR,
-        MOST_ERROR,
-        MOST_ERROR,
-    ]
-}
-
-// What an active claim and a waiting one both pass: method, ticket and priority in range; the value, of a state not below 0; the
-// error, by the row of the most that each method may have; measured by the clock's second, a reading at 0; the fresh flag, which
-// a write has not.
+// What an active claim and a waiting one both pass: a known method; ticket, priority and value in range; the error, by the row of the
+// largest that each method may have; the second measured, which is not after the clock and 0 in a reading; the fresh flag, which only
+// a reading may have.
 fn alone(c: Claim, clock: u32, next: u32, most: &[u32]) -> bool
     requires { ⌜ length (now most) ≡ 7 ⌝ }
     ensures { λ r. ⌜ r ≡ aloneFits (now (most .entry)) clock next c ⌝ }
 {
-    if METHODS <= c.method {
+    if !is_known(c.method) {
         return false;
     }
     if c.ticket < 1 {

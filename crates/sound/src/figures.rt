@@ -1,38 +1,36 @@
 // The figures of a disk: ranges, amounts and stamps, and the next ticket.
 
 ghost use mathlib.Core.Path.{_≡_};
-ghost use lib.ListN.{length};
 ghost use Rattle.law.specs.Types.{a0, a2};
 ghost use Rattle.rules.specs.Methods.{figuresOf};
-ghost use Rattle.rules.specs.Disks.{figuresIn};
-ghost use Rattle.part.specs.Layout.{decode};
-ghost use Rattle.sound.specs.Tests.{figureFits, figuresFit};
+ghost use Rattle.part.specs.Held.{held, HoldsDisk};
+ghost use Rattle.sound.specs.Tests.{figureFits, figuresFit, figuresOn};
 use law::Attr;
+use law::limits::LAST_TICKET;
+use law::limits::MOST_ERROR;
+use law::limits::MOST_STATE;
+use law::limits::MOST_VALUE;
 use num::signed::within;
-use num::word::word_at;
+use part::read::clock_at;
+use part::read::next_at;
 use part::read::promised_at;
 use part::read::state_at;
 use part::read::used_at;
 
-const MOST_VALUE: u32 = 1000000000;
-
-const MOST_ERROR: u32 = 2000000000;
-
-const MOST_STATE: u32 = 255;
-
-const MOST_NEXT: u32 = 1000000;
+// The ticket behind the last one: no ticket is left to hand out.
+const MOST_NEXT: u32 = LAST_TICKET + 1;
 
 // The figures of a part.
 pub fn figures_hold(s: &[u8]) -> bool
-    requires { ⌜ length (now s) ≡ 768 ⌝ }
-    ensures { λ r. ⌜ r ≡ figuresFit (figuresIn (decode (now (s .entry)))) (decode (now (s .entry)) .clock) (decode (now (s .entry)) .next) ⌝ }
+    requires { ⌜ HoldsDisk (now s) ⌝ }
+    ensures { λ r. ⌜ r ≡ figuresOn (held (now (s .entry))) ⌝ }
 {
     figures_fit(
         used_at(s),
         promised_at(s),
         state_at(s),
-        word_at(s, 0),
-        word_at(s, 4),
+        clock_at(s),
+        next_at(s),
     )
 }
 

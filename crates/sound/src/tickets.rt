@@ -1,27 +1,52 @@
-// The tickets of all claims of a part, two by two.
+// The tickets of claims: their marks, by which most parts are found to have no two alike, and all of them two by two.
 
-ghost use mathlib.Core.Bool.{true};
 ghost use mathlib.Core.Path.{_≡_};
 ghost use Prim.Native.Nat.{_+_, _<_};
-ghost use lib.ListN.{length, getD};
+ghost use lib.ListN.{getD};
 ghost use Rattle.law.specs.Sound.{claimsOn};
 ghost use Rattle.rules.specs.Rows.{noClaim};
-ghost use Rattle.rules.specs.Disks.{diskOf};
-ghost use Rattle.part.specs.Layout.{decode, decodes};
+ghost use Rattle.part.specs.Layout.{decode};
+ghost use Rattle.part.specs.Held.{held, HoldsDisk};
 ghost use Rattle.sound.specs.Tests.{ticketsDiffer};
+ghost use Rattle.sound.specs.Seen.{noMarks, withTicket};
 use law::Claim;
-use num::word::word_at;
+use num::bits::bit_of;
 use part::read::active_at;
+use part::read::actives_at;
 use part::read::waiting_at;
+use part::read::waitings_at;
+
+// Masks of the last six bits of tickets: those met, and those met again.
+pub struct Marks {
+    pub met: u64,
+    pub again: u64,
+}
+
+// The marks of no tickets.
+pub fn no_marks() -> Marks
+    ensures { λ r. ⌜ r ≡ noMarks ⌝ }
+{
+    Marks { met: 0, again: 0 }
+}
+
+// The marks with the ticket of one claim more.
+pub fn with_ticket(m: Marks, c: Claim) -> Marks
+    ensures { λ r. ⌜ r ≡ withTicket m c ⌝ }
+{
+    let bit = bit_of(c.ticket);
+    Marks {
+        met: m.met | bit,
+        again: m.again | m.met & bit,
+    }
+}
 
 // No two claims have the same ticket.
 pub fn apart(s: &[u8]) -> bool
-    requires { ⌜ length (now s) ≡ 768 ⌝ }
-    requires { ⌜ decodes (now s) ≡ true ⌝ }
-    ensures { λ r. ⌜ r ≡ ticketsDiffer (diskOf (decode (now (s .entry)))) ⌝ }
+    requires { ⌜ HoldsDisk (now s) ⌝ }
+    ensures { λ r. ⌜ r ≡ ticketsDiffer (held (now (s .entry))) ⌝ }
 {
-    let n = word_at(s, 8) as usize;
-    let all = n + word_at(s, 12) as usize;
+    let n = actives_at(s) as usize;
+    let all = n + waitings_at(s) as usize;
     let mut i: usize = 0;
     while i < all {
         let x = claim_on(s, n, i);
@@ -40,11 +65,10 @@ pub fn apart(s: &[u8]) -> bool
 
 // Claim i of a part with n active ones: these first, then those that wait.
 fn claim_on(s: &[u8], n: usize, i: usize) -> Claim
-    requires { ⌜ length (now s) ≡ 768 ⌝ }
-    requires { ⌜ decodes (now s) ≡ true ⌝ }
+    requires { ⌜ HoldsDisk (now s) ⌝ }
     requires { ⌜ n ≡ decode (now s) .actives ⌝ }
     requires { ⌜ i < n + decode (now s) .waitings ⌝ }
-    ensures { λ r. ⌜ r ≡ getD (claimsOn (diskOf (decode (now (s .entry))))) i noClaim ⌝ }
+    ensures { λ r. ⌜ r ≡ getD (claimsOn (held (now (s .entry)))) i noClaim ⌝ }
 {
     if i < n {
         return active_at(s, i);

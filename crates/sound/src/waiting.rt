@@ -1,79 +1,84 @@
-// The waiting claims of a part: one walk over each by itself, which gathers their tickets, and one over their order.
+// The waiting claims of a part, in one walk over each by itself, which marks their tickets, and one over their order; and what is
+// left to test behind the active claims.
 
 ghost use mathlib.Core.Bool.{true};
 ghost use mathlib.Core.Path.{_≡_};
-ghost use lib.ListN.{length};
-ghost use Rattle.law.specs.Base.{everyPair};
+ghost use Rattle.law.specs.Base.{everyPair, allTrue};
 ghost use Rattle.law.specs.Calls.{before as lawBefore};
-ghost use Rattle.rules.specs.Disks.{figuresIn, diskOf};
-ghost use Rattle.part.specs.Layout.{decode, decodes};
-ghost use Rattle.sound.specs.Tests.{figuresFit, waitingsFit};
-ghost use Rattle.sound.specs.Seen.{Unmet};
-use crate::alone::most_errors;
+ghost use Rattle.part.specs.Held.{held, HoldsDisk};
+ghost use Rattle.sound.specs.Tests.{waitingsFit, restTests};
+ghost use Rattle.sound.specs.Seen.{marksOf, marksFrom, Ready};
 use crate::alone::waiting_fits;
-use num::bits::bit_of;
-use num::word::word_at;
-use part::read::promised_at;
-use part::read::used_at;
+use crate::tickets::Marks;
+use crate::tickets::apart;
+use crate::tickets::with_ticket;
+use part::read::clock_at;
+use part::read::next_at;
 use part::read::waiting_at;
+use part::read::waitings_at;
 use rules::row::before;
 
-// What the walk over the waiting claims has seen: whether they pass, and if so the tickets' bits met again.
+// What the walk over the waiting claims has seen: whether they pass, and if so the marks of all tickets.
 pub struct Waited {
     pub ok: bool,
-    pub again: u64,
+    pub marks: Marks,
 }
 
-// Each waiting claim fits by itself; where none waits nothing more is read. The bits of the tickets are gathered on from those
-// handed in.
-pub(crate) fn waitings_fit(s: &[u8], tickets: u64, again: u64) -> Waited
-    requires { ⌜ length (now s) ≡ 768 ⌝ }
-    requires { ⌜ decodes (now s) ≡ true ⌝ }
-    requires { ⌜ figuresFit (figuresIn (decode (now s))) (decode (now s) .clock) (decode (now s) .next) ≡ true ⌝ }
-    ensures { λ r. ⌜ r .ok ≡ waitingsFit (diskOf (decode (now (s .entry)))) ⌝ }
-    ensures { λ r. ⌜ (r .ok ≡ true → r .again ≡ 0 → Unmet tickets again (diskOf (decode (now (s .entry))))) ⌝ }
+// The waiting claims fit, they stand in the pass's order, and no two claims have the same ticket: the tickets are compared two by
+// two only where their last six bits coincide.
+pub(crate) fn waitings_hold(s: &[u8], most: &[u32], marks: Marks) -> bool
+    requires { ⌜ Ready (now s) (now most) ⌝ }
+    requires { ⌜ marks ≡ marksOf (held (now s) .core .active) ⌝ }
+    ensures { λ r. ⌜ r ≡ allTrue (restTests (held (now (s .entry)))) ⌝ }
 {
-    let m = word_at(s, 12) as usize;
-    if m == 0 {
-        return Waited { ok: true, again };
+    let w = waitings_fit(s, most, marks);
+    if !w.ok {
+        return false;
     }
-    let clock = word_at(s, 0);
-    let next = word_at(s, 4);
-    let used = used_at(s);
-    let promised = promised_at(s);
-    let most = most_errors(used.limit, promised.limit);
-    let mut mask = tickets;
-    let mut met = again;
+    if !in_order(s) {
+        return false;
+    }
+    let all = w.marks;
+    if all.again == 0 {
+        return true;
+    }
+    apart(s)
+}
+
+// Each waiting claim fits by itself. The marks of the tickets are added to those handed in.
+fn waitings_fit(s: &[u8], most: &[u32], marks: Marks) -> Waited
+    requires { ⌜ Ready (now s) (now most) ⌝ }
+    ensures { λ r. ⌜ r .ok ≡ waitingsFit (held (now (s .entry))) ⌝ }
+    ensures { λ r. ⌜ (r .ok ≡ true → r .marks ≡ marksFrom marks (held (now (s .entry)) .waiting)) ⌝ }
+{
+    let clock = clock_at(s);
+    let next = next_at(s);
+    let n = waitings_at(s) as usize;
+    let mut all = marks;
     let mut i: usize = 0;
-    while i < m {
+    while i < n {
         let x = waiting_at(s, i);
-        if !waiting_fits(x, clock, next, &most) {
-            return Waited {
-                ok: false,
-                again: 0,
-            };
+        if !waiting_fits(x, clock, next, most) {
+            return Waited { ok: false, marks };
         }
-        let bit = bit_of(x.ticket);
-        met = met | mask & bit;
-        mask = mask | bit;
+        all = with_ticket(all, x);
         i += 1;
     }
     Waited {
         ok: true,
-        again: met,
+        marks: all,
     }
 }
 
-// The waiting claims stand in the pass's order. Each is compared with the next one alone: what is before the next is
-// before all behind it.
-pub fn in_order(s: &[u8]) -> bool
-    requires { ⌜ length (now s) ≡ 768 ⌝ }
-    requires { ⌜ decodes (now s) ≡ true ⌝ }
-    ensures { λ r. ⌜ r ≡ everyPair lawBefore (diskOf (decode (now (s .entry))) .waiting) ⌝ }
+// The waiting claims stand in the pass's order. Each is compared with the next one alone: what comes before the next comes before
+// all behind it.
+fn in_order(s: &[u8]) -> bool
+    requires { ⌜ HoldsDisk (now s) ⌝ }
+    ensures { λ r. ⌜ r ≡ everyPair lawBefore (held (now (s .entry)) .waiting) ⌝ }
 {
-    let m = word_at(s, 12) as usize;
+    let n = waitings_at(s) as usize;
     let mut i: usize = 1;
-    while i < m {
+    while i < n {
         let x = waiting_at(s, i - 1);
         let y = waiting_at(s, i);
         if !before(x, y) {

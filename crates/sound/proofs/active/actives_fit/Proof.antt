@@ -1,253 +1,188 @@
--- The claims before i have passed, and those from i on decide; the sum, the methods, those there twice and the tickets' mask,
--- each with what is left from i on, make the whole.
+-- The claims before i have passed, and those from i on decide; the totals and the marks, added to by what is left from i on, are
+-- those of all.
 use borrow.Author.Needs.{needs}
-use Prim.Native.Nat.{ℕ, _+_, _-_, _*_, _≤_, _<_}
+use Prim.Native.Nat.{ℕ, _+_, _-_, _*_, _≤_}
 use mathlib.Core.Bool.{Bool, true, false}
-use mathlib.Core.List.{List, [], _∷_, _++_}
+use mathlib.Core.List.{List, [], _∷_}
 use mathlib.Core.Path.{_≡_, refl, sym, ap, _∙_}
 use native.Mathlib.Omega.{arith}
-use borrow.Author.Tests.{not-true, not-false}
-use lib.Dec.{leb}
-use lib.ListN.{length, drop, getD}
 use mir.Facts.{toZ-ofZ}
-use Rattle.num.specs.Metric.{size}
-use Rattle.law.specs.declared.Attr.{Attr}
+use lib.ListN.{length, drop, getD}
 use Rattle.law.specs.declared.Claim.{Claim}
-use Rattle.law.specs.Base.{everyOf, sumOf}
+use Rattle.law.specs.Base.{everyOf}
 use Rattle.law.specs.Lists.{never-true}
-use Rattle.law.specs.Types.{mostValue}
-use Rattle.rules.specs.Rows.{Row, noClaim}
-use Rattle.rules.specs.RowLaws.{left-on, left-end, sum-turn, sum-end, every-on, every-not, every-end}
-use Rattle.rules.specs.Masks.{methodsFrom, methodsOf, twiceFrom, twiceOf}
-use Rattle.rules.specs.Pairs.{addOf}
-use Rattle.rules.specs.Disks.{figuresIn, diskOf}
-use Rattle.part.specs.Layout.{decode, decodes}
-use Rattle.sound.specs.Tests.{activeFits, mostErrors, activeBy, eachActive, sumTest, activesFront, activesTests}
-use Rattle.sound.specs.Seen.{free, Onward}
-use Rattle.sound.proofs.TestLaws.{test-fails, test-last}
-use Rattle.sound.proofs.WalkLaws.{there}
-use Rattle.sound.proofs.TicketMaskLaws.{none-before, free-on}
-use Rattle.sound.proofs.MeetLaws.{methods-on, methods-end, twice-on, twice-end}
-use Rattle.sound.proofs.AloneLaws.{active-is}
-use Rattle.sound.proofs.DiskLaws.{actives, waitings, clock-read, next-read, actives-read, good}
+use Rattle.law.specs.Types.{mostValue, Disk}
+use Rattle.rules.specs.declared.totals.Totals.{Totals}
+use Rattle.rules.specs.Totals.{totalsFrom, totalsOf}
+use Rattle.rules.specs.Disks.{figuresIn}
+use Rattle.rules.proofs.TotalsLaws.{sum-is}
+use Rattle.part.specs.Layout.{decode}
+use Rattle.part.specs.Held.{held}
+use Rattle.sound.specs.Tests.{activeFits, activeBy, eachActive, everyMeets, sumTest, activesFront, activesTests, activesFit}
+use Rattle.sound.specs.Seen.{Ready, marksFrom, marksOf}
+use Rattle.sound.proofs.TestLaws.{failed, went, test-fails, test-last}
+use Rattle.sound.proofs.WalkLaws.{none-left, each-on, each-not}
+use Rattle.sound.proofs.AloneLaws.{add-most}
+use Rattle.sound.proofs.MarkLaws.{marks-on, marks-end}
+use Rattle.sound.proofs.MeetLaws.{sum-on, totals-on, totals-end}
+use Rattle.sound.proofs.DiskLaws.{actives, some-active, few-active, active-turn, active-by}
 use Rattle.sound.proofs.active.actives_fit.Statement.{statement}
 use Rattle.sound.proofs.active.actives_fit.Tie as tie
 
 abbrev fit : List ℕ → Claim → Bool
 fit s = activeFits (figuresIn (decode s)) (decode s .clock) (decode s .next)
 
--- The active claims from i on, and with those that wait.
+-- The active claims from i on.
 abbrev left : List ℕ → ℕ → List Claim
-left s i = drop i (actives (decode s))
-
-abbrev left-on-all : List ℕ → ℕ → List Claim
-left-on-all s i = left s i ++ waitings (decode s)
+left s i = drop i (actives s)
 
 abbrev Inv : tie.InvT-loop
-Inv s clock next n promised most adds₀ methods₀ twice₀ tickets₀ again₀ i₀ adds methods twice tickets again i =
+Inv s most clock next n none unmarked totals₀ marks₀ i₀ totals marks i =
     (i ≤ n)
-    × (adds ≤ i * 2_147_483_648)
-    × (adds + sumOf addOf (left s i) ≡ sumOf addOf (actives (decode s)))
-    × (everyOf (fit s) (left s i) ≡ everyOf (fit s) (actives (decode s)))
-    × (methodsFrom methods (left s i) ≡ methodsOf (actives (decode s)))
-    × (twiceFrom twice methods (left s i) ≡ twiceOf (actives (decode s)))
-    × (again ≡ 0 → free tickets (left-on-all s i) ≡ free 0 (left-on-all s 0))
+    × (totals .sum ≤ i * mostValue)
+    × (everyOf (fit s) (left s i) ≡ everyOf (fit s) (left s 0))
+    × (totalsFrom totals (left s i) ≡ totalsOf (left s 0))
+    × (marksFrom marks (left s i) ≡ marksOf (left s 0))
 
 abbrev μ : tie.MeasureT-loop
-μ s clock next n promised most adds₀ methods₀ twice₀ tickets₀ again₀ i₀ adds methods twice tickets again i = n - i
+μ s most clock next n none unmarked totals₀ marks₀ i₀ totals marks i = n - i
 
--- The place where the figures are read and the row is made, and the part there.
-abbrev Read : Type 0
-Read = tie.After-most-errors Inv μ
+-- At the loop: what has been read, and the part.
+module _ (l : tie.At-loop Inv μ) where
+  abbrev read : tie.After-actives-at Inv μ
+  read = l .before .before .before
 
-abbrev part : Read → List ℕ
-part k = k .before .before .before .before .before .before .before .args .s .now
+  abbrev start : tie.Start Inv μ
+  start = read .before .before .before .before .before
 
-long : (k : Read) → length (part k) ≡ 768
-long k = k .before .before .before .before .before .before .before .pre .0
+  abbrev part : List ℕ
+  part = start .args .s .now
 
-sane : (k : Read) → decodes (part k) ≡ true
-sane k = k .before .before .before .before .before .before .before .pre .1 .0
+  ready : Ready part (start .args .most .now)
+  ready = start .pre
 
-count : (k : Read) → k .before .before .before .word-at3 .result ≡ decode (part k) .actives
-count k = k .before .before .before .word-at3 .ensures ∙ actives-read (part k)
+  count : read .actives-at .result ≡ length (actives part)
+  count = read .actives-at .ensures ∙ some-active (ready .disk)
 
-row : (k : Read) → Row (decode (part k) .active) (decode (part k) .actives)
-row k = good (part k) (long k) (sane k) .active
+  few : length (actives part) ≤ 8
+  few = few-active (ready .disk)
 
--- The test of a claim with the limits read is that with the disk's figures.
-fits : (k : Read) (x : Claim) →
-    activeBy (k .most-errors .result)
-    (k .before .before .before .before .before .word-at .result) (k .before .before .before .before .word-at2 .result) x
-    ≡ fit (part k) x
-fits k x =
-    let s = part k in
-    (λ i.
-    activeBy ((k .most-errors .ensures ∙ (λ j. mostErrors (k .before .before .used-at .ensures j .limit) (k .before .promised-at .ensures j .limit))) i)
-    ((k .before .before .before .before .before .word-at .ensures ∙ clock-read s) i)
-    ((k .before .before .before .before .word-at2 .ensures ∙ next-read s) i) x)
-    ∙ active-is (figuresIn (decode s)) (decode s .clock) (decode s .next) (k .before .before .before .before .before .before .before .pre .1 .1) x
+  fits : (x : Claim) →
+      activeBy (start .args .most .now) (read .before .before .clock-at .result) (read .before .next-at .result) x ≡ fit part x
+  fits = active-by ready _ _ (read .before .before .clock-at .ensures) (read .before .next-at .ensures)
 
--- A turn: the claim read at i, and those behind it.
-turn : (k : Read) (i : ℕ) (x : Claim) → i < k .before .before .before .word-at3 .result →
-    x ≡ getD (decode (part k) .active) i noClaim → left (part k) i ≡ x ∷ left (part k) (i + 1)
-turn k i x h e = left-on (row k) i (omega (arith, h, count k)) ∙ ap (λ (y : Claim). y ∷ left (part k) (i + 1)) (sym e)
+-- In a turn: the claim at i, and those behind it.
+module _ (a : tie.After-active-at Inv μ) where
+  abbrev walk : tie.At-loop Inv μ
+  walk = a .before .before
 
--- Behind the walk: nothing is left, and the whole is gathered.
+  here : left (part walk) (walk .loop .i) ≡ a .active-at .result ∷ left (part walk) (walk .loop .i + 1)
+  here = active-turn (ready walk .disk) _ _ refl (omega (arith, a .before .loop-test .taken, count walk)) (a .active-at .ensures)
+
+-- Behind the loop: nothing is left.
 module _ (e : tie.After-loop Inv μ) where
-  abbrev walked : Read
-  walked = e .before .before
+  abbrev done : tie.At-loop Inv μ
+  done = e .before
 
-  end : decode (part walked) .actives ≤ e .before .loop .i
-  end = omega (arith, e .loop-test .left, count walked)
+  none : left (part done) (done .loop .i) ≡ []
+  none = none-left (actives (part done)) (done .loop .i) (omega (arith, e .loop-test .left, count done))
 
-  none : left (part walked) (e .before .loop .i) ≡ []
-  none = left-end (row walked) (e .before .loop .i) end
+  each-is : eachActive (held (part done)) ≡ true
+  each-is = sym (done .loop .inv .2) ∙ ap (everyOf (fit (part done))) none
 
-  adds-is : e .before .loop .adds ≡ sumOf addOf (actives (decode (part walked)))
-  adds-is = omega (arith, e .before .loop .inv .2, sum-end (row walked) addOf (e .before .loop .i) end)
+  totals-is : done .loop .totals ≡ totalsOf (actives (part done))
+  totals-is = sym (totals-end (done .loop .totals) none .0) ∙ done .loop .inv .3
 
-  each-is : eachActive (diskOf (decode (part walked))) ≡ true
-  each-is = sym (every-end (row walked) (fit (part walked)) (e .before .loop .i) end ∙ e .before .loop .inv .3)
+  marks-is : done .loop .marks ≡ marksOf (actives (part done))
+  marks-is = sym (marks-end (done .loop .marks) none) ∙ done .loop .inv .4
 
-  methods-is : e .before .loop .methods ≡ methodsOf (actives (decode (part walked)))
-  methods-is = sym (methods-end (e .before .loop .methods) none) ∙ e .before .loop .inv .4
+-- A test has failed: what is handed on is not looked at.
+wrong : (d : Disk) (j : ℕ) {P Q : Type 0} → getD (activesTests d) j true ≡ false →
+    (false ≡ activesFit d) × ((false ≡ true → P) × (false ≡ true → Q))
+wrong d j e = (test-fails (activesTests d) j e, ((λ t. never-true _ t), λ t. never-true _ t))
 
-  twice-is : e .before .loop .twice ≡ twiceOf (actives (decode (part walked)))
-  twice-is = sym (twice-end (e .before .loop .twice) (e .before .loop .methods) none) ∙ e .before .loop .inv .5
+clock-at-requires : tie.Need-clock-at-requires Inv μ
+clock-at-requires c κs = search needs
 
-  onward : Onward (e .before .loop .tickets) (e .before .loop .again) (diskOf (decode (part walked)))
-  onward h =
-      ap (λ (ws : List Claim). free (e .before .loop .tickets) (ws ++ waitings (decode (part walked)))) (sym none)
-      ∙ e .before .loop .inv .6 h
+next-at-requires : tie.Need-next-at-requires Inv μ
+next-at-requires c κs = search needs
 
-word-at-requires : tie.Need-word-at-requires Inv μ
-word-at-requires c κs = search needs
-
-word-at-requires-2 : tie.Need-word-at-requires-2 Inv μ
-word-at-requires-2 c κs = search needs
-
-word-at-requires-3 : tie.Need-word-at-requires-3 Inv μ
-word-at-requires-3 c κs = search needs
+actives-at-requires : tie.Need-actives-at-requires Inv μ
+actives-at-requires c κs = search needs
 
 cast-n : tie.Need-cast-n Inv μ
 cast-n c = search needs
 
-used-at-requires : tie.Need-used-at-requires Inv μ
-used-at-requires c κs = search needs
+no-totals-requires : tie.Need-no-totals-requires Inv μ
+no-totals-requires c κs = tt
 
-promised-at-requires : tie.Need-promised-at-requires Inv μ
-promised-at-requires c κs = search needs
-
-most-errors-requires : tie.Need-most-errors-requires Inv μ
-most-errors-requires c κs = tt
+no-marks-requires : tie.Need-no-marks-requires Inv μ
+no-marks-requires c κs = tt
 
 loop-holds : tie.Need-loop-holds Inv μ
-loop-holds c = (omega arith, omega arith, omega arith, refl, refl, refl, λ h. refl)
+loop-holds c = rw (c .no-marks .ensures, c .before .no-totals .ensures) (omega arith, omega arith, refl, refl, refl)
 
 active-at-requires : tie.Need-active-at-requires Inv μ
 active-at-requires c κs =
-    let k = c .before .before in
-    (long k, omega (arith, c .loop-test .taken, count k, row k .few))
-
-slice-aggregate-active-fits : tie.Need-slice-aggregate-active-fits Inv μ
-slice-aggregate-active-fits c = search needs
+    let l = c .before in
+    (ready l .disk .long, omega (arith, c .loop-test .taken, count l, few l))
 
 active-fits-requires : tie.Need-active-fits-requires Inv μ
-active-fits-requires c κs = search needs
-
-failed-requires : tie.Need-failed-requires Inv μ
-failed-requires c κs = tt
-
--- What a walk that has failed hands on is not looked at.
-lost : {b : Bool} (P : Type 0) → b ≡ false → b ≡ true → P
-lost P h e = never-true P (sym h ∙ e)
+active-fits-requires c κs = ap length (ready (walk c) .row)
 
 returns : tie.Need-returns Inv μ
 returns c =
-    let f = c .before in
-    let a = f .before .before .before in
-    let t = a .before in
+    let a = c .before .before in
+    let l = walk a in
+    let s = part l in
+    wrong (held s) 0
+    (sym (l .loop .inv .2) ∙ each-not (here a) (fit s) (failed (c .before .active-fits .ensures ∙ fits l _) (c .if1 .taken)))
+
+with-claim-requires : tie.Need-with-claim-requires Inv μ
+with-claim-requires c κs =
+    let t = c .before .before .before in
     let l = t .before in
-    let k = l .before in
-    let s = part k in
-    let d = diskOf (decode s) in
-    let r = c .failed .ensures in (
-      r
-          ∙ test-fails (activesTests d) 0
-          (sym (every-not (row k) (fit s) (l .loop .i) (omega (arith, t .loop-test .taken, count k))
-          (there (fit s) (a .active-at .ensures)
-          (sym (f .before .active-fits .ensures ∙ fits k _) ∙ not-true _ (f .if1 .taken)))
-          ∙ l .loop .inv .3)),
-      (lost _ r, lost _ r),
-    )
+    omega (arith, l .loop .inv .1, t .loop-test .taken, count l, few l)
 
-add-part-requires : tie.Need-add-part-requires Inv μ
-add-part-requires c κs = tt
-
-add-adds : tie.Need-add-adds Inv μ
-add-adds c =
-    let t = c .before .before .before .before .before in
-    let l = t .before in
-    let k = l .before in
-    record { fits = omega (arith, l .loop .inv .0, l .loop .inv .1, count k, row k .few, t .loop-test .taken, c .add-part .ensures .1) }
-
-own-bit-requires : tie.Need-own-bit-requires Inv μ
-own-bit-requires c κs = tt
-
-bit-of-requires : tie.Need-bit-of-requires Inv μ
-bit-of-requires c κs = tt
+with-ticket-requires : tie.Need-with-ticket-requires Inv μ
+with-ticket-requires c κs = tt
 
 add-i : tie.Need-add-i Inv μ
 add-i c =
-    let t = c .before .before .before .before .before .before .before in
-    let k = t .before .before in
-    record { fits = omega (arith, t .loop-test .taken, count k, row k .few) }
+    let t = c .before .before .before .before .before in
+    record { fits = omega (arith, t .loop-test .taken, count (t .before), few (t .before)) }
 
 loop-less : tie.Need-loop-less Inv μ
-loop-less c = omega (arith, c .before .before .before .before .before .before .before .loop-test .taken)
+loop-less c = omega (arith, c .before .before .before .before .before .loop-test .taken)
 
 loop-again : tie.Need-loop-again Inv μ
 loop-again c =
-    let o = c .before in
-    let p = o .before in
-    let a = p .before .before .before .before in
-    let t = a .before in
-    let l = t .before in
-    let k = l .before in
-    let s = part k in
-    let i = l .loop .i in
-    let x = a .active-at .result in
-    let e = a .active-at .ensures in
-    let m = turn k i x (t .loop-test .taken) e in
-    let w = ap (λ (ws : List Claim). ws ++ waitings (decode s)) m in (
-      omega (arith, t .loop-test .taken),
-      omega (arith, l .loop .inv .1, p .add-part .ensures .1),
-      omega (arith, l .loop .inv .2, p .add-part .ensures .0, ap addOf e, sum-turn (row k) addOf i (omega (arith, t .loop-test .taken, count k))),
-      every-on (row k) (fit s) i (omega (arith, t .loop-test .taken, count k))
-          (there (fit s) e (sym (p .before .before .active-fits .ensures ∙ fits k _) ∙ not-false _ (p .before .if1 .left)))
-          ∙ l .loop .inv .3,
-      methods-on (l .loop .methods) (o .own-bit .result) m (o .own-bit .ensures) ∙ l .loop .inv .4,
-      twice-on (l .loop .methods) (o .own-bit .result) m (o .own-bit .ensures) (l .loop .twice) ∙ l .loop .inv .5,
-      λ h.
-          free-on (l .loop .tickets) (l .loop .again) (c .bit-of .result) w (c .bit-of .ensures) h
-          ∙ l .loop .inv .6 (none-before (l .loop .tickets) (l .loop .again) (c .bit-of .result) w (c .bit-of .ensures) h),
+    let w = c .before in
+    let passed = w .before in
+    let a = passed .before .before in
+    let l = walk a in
+    let s = part l in
+    let t = l .loop .totals in
+    let m = here a in
+    let sum = w .with-claim .ensures in
+    let ok : fit s (a .active-at .result) ≡ true = went (passed .before .active-fits .ensures ∙ fits l _) (passed .if1 .left) in (
+      omega (arith, a .before .loop-test .taken),
+      omega (arith, l .loop .inv .1, sum-on t m sum, add-most _ _ _ _ ok),
+      each-on m (fit s) ok ∙ l .loop .inv .2,
+      totals-on t m sum ∙ l .loop .inv .3,
+      marks-on (l .loop .marks) m (c .with-ticket .ensures) ∙ l .loop .inv .4,
     )
 
 none-clash-requires : tie.Need-none-clash-requires Inv μ
-none-clash-requires c κs =
-    let k = walked c in
-    (long k, (sane k, (each-is c, (methods-is c, twice-is c))))
-
-failed-requires-2 : tie.Need-failed-requires-2 Inv μ
-failed-requires-2 c κs = tt
+none-clash-requires c κs = (ready (done c) .disk, totals-is c)
 
 returns-2 : tie.Need-returns-2 Inv μ
 returns-2 c =
-    let f = c .before in
-    let d = diskOf (decode (part (walked (f .before .before)))) in
-    let r = c .failed2 .ensures in
-    (r ∙ test-fails (activesTests d) 1 (sym (f .before .none-clash .ensures) ∙ not-true _ (f .if2 .taken)), (lost _ r, lost _ r))
+    let e = c .before .before in
+    wrong (held (part (done e))) 1 (failed (c .before .none-clash .ensures) (c .if2 .taken))
+
+promised-at-requires : tie.Need-promised-at-requires Inv μ
+promised-at-requires c κs = ready (done (c .before .before)) .disk .long
 
 size-requires : tie.Need-size-requires Inv μ
 size-requires c κs = tt
@@ -257,26 +192,23 @@ cast-ok c = search needs
 
 add-ok : tie.Need-add-ok Inv μ
 add-ok c =
-    let l = c .before .before .before .before .before in
-    let k = l .before in
-    record { fits = omega (arith, l .loop .inv .0, l .loop .inv .1, count k, row k .few, c .size .ensures .1) }
+    let l = c .before .before .before .before .before .before .before in
+    record { fits = omega (arith, l .loop .inv .0, l .loop .inv .1, count l, few l, c .before .size .ensures .1) }
 
 cast-ok-2 : tie.Need-cast-ok-2 Inv μ
 cast-ok-2 c = search needs
 
 returns-3 : tie.Need-returns-3 Inv μ
 returns-3 c =
-    let q = c .before .before in
-    let e = q .before .before in
-    let k = walked e in
-    let s = part k in
-    let d = diskOf (decode s) in
-    let met = sym (q .before .none-clash .ensures) ∙ not-false _ (q .if2 .left) in
-    let v = rw (toZ-ofZ (record { sfits = c .before .struct-told .given .0 .1 })) at (c .size .ensures .0) in (
-      rw (v, adds-is e)
-          (ap (λ (a : Attr). leb (size (a .value) + sumOf addOf (actives (decode s))) mostValue) (k .before .promised-at .ensures)
-          ∙ test-last (activesFront d) (sumTest d) (each-is e, (met, tt))),
-      ((λ h. (adds-is e, methods-is e, twice-is e)), (λ h. onward e)),
+    let z = c .before in
+    let p = z .before .before in
+    let met = p .before in
+    let e = met .before .before in
+    let d = held (part (done e)) in
+    let v = rw (toZ-ofZ (record { sfits = z .before .struct-told .given .0 .1 })) at (z .size .ensures .0) in (
+      rw (v, ap (λ (t : Totals). t .sum) (totals-is e) ∙ sum-is (d .core .active), p .promised-at .ensures)
+          (test-last (activesFront d) (sumTest d) (each-is e, (went (met .before .none-clash .ensures) (met .if2 .left), tt))),
+      ((λ h. totals-is e), (λ h. marks-is e)),
     )
 
 pub actives-fit-spec : {M : Type 1} → statement M
@@ -285,29 +217,24 @@ actives-fit-spec =
     (tie.spec
     Inv
     μ
-    word-at-requires
-    word-at-requires-2
-    word-at-requires-3
+    clock-at-requires
+    next-at-requires
+    actives-at-requires
     cast-n
-    used-at-requires
-    promised-at-requires
-    most-errors-requires
+    no-totals-requires
+    no-marks-requires
     loop-holds
     active-at-requires
-    slice-aggregate-active-fits
     active-fits-requires
-    failed-requires
     returns
-    add-part-requires
-    add-adds
-    own-bit-requires
-    bit-of-requires
+    with-claim-requires
+    with-ticket-requires
     add-i
     loop-less
     loop-again
     none-clash-requires
-    failed-requires-2
     returns-2
+    promised-at-requires
     size-requires
     cast-ok
     add-ok

@@ -1,234 +1,138 @@
--- The claims before i have passed with all behind them, and the pairs from i on decide; so does the inner walk from its place
--- on.
-use Prim.Native.Nat.{ℕ, _+_, _-_, _<_, _≤_}
-use mathlib.Core.Bool.{true}
-use mathlib.Core.List.{List}
+-- The claims before i have met, and those from i on decide, held against the totals of those before them.
+use borrow.Author.Needs.{needs}
+use Prim.Native.Nat.{ℕ, _+_, _-_, _≤_}
+use mathlib.Core.List.{List, [], _∷_}
 use mathlib.Core.Path.{_≡_, refl, sym, ap, _∙_}
 use native.Mathlib.Omega.{arith}
-use borrow.Author.Needs.{needs}
-use borrow.Author.Tests.{not-true, not-false}
-use lib.ListN.{length, drop, getD}
+use lib.ListN.{length, drop}
 use Rattle.law.specs.declared.Claim.{Claim}
-use Rattle.law.specs.Base.{everyOf, everyPair}
-use Rattle.law.specs.DiskType.{diskEntries}
-use Rattle.rules.specs.Rows.{noClaim}
-use Rattle.part.specs.Layout.{decode, decodes}
-use Rattle.sound.specs.Tests.{meets}
-use Rattle.sound.proofs.WalkLaws.{there, each-on, each-not, each-end, pairs-on, pairs-not, pairs-end}
-use Rattle.sound.proofs.DiskLaws.{actives, actives-read, some-active, active-stands, method-there, good}
+use Rattle.rules.specs.declared.totals.Totals.{Totals}
+use Rattle.rules.specs.Totals.{noTotals, totalsFrom, totalsOf}
+use Rattle.rules.proofs.TotalsLaws.{sum-is, sum-within}
+use Rattle.part.specs.PartLaws.{adds-most}
+use Rattle.sound.proofs.WalkLaws.{none-left}
+use Rattle.sound.proofs.MeetLaws.{meetFrom, totals-on, meet-on, meet-not, totals-end, meets-is}
+use Rattle.sound.proofs.DiskLaws.{actives, some-active, few-active, active-turn}
 use Rattle.sound.proofs.active.actives_meet.Statement.{statement}
 use Rattle.sound.proofs.active.actives_meet.Tie as tie
 
-abbrev Inv2 : tie.InvT-loop2
-Inv2 s table n i x row j₀ j =
-    everyOf (meets x) (drop j (actives (decode s))) ≡ everyOf (meets x) (drop (i + 1) (actives (decode s)))
-
-abbrev μ2 : tie.MeasureT-loop2
-μ2 s table n i x row j₀ j = n - j
+-- The active claims from i on.
+abbrev left : List ℕ → ℕ → List Claim
+left s i = drop i (actives s)
 
 abbrev Inv : tie.InvT-loop
-Inv s table n i₀ i = everyPair meets (drop i (actives (decode s))) ≡ everyPair meets (actives (decode s))
+Inv s n t₀ i₀ t i =
+    (i ≤ n)
+    × (meetFrom t (left s i) ≡ meetFrom noTotals (left s 0))
+    × (totalsFrom t (left s i) ≡ totalsOf (left s 0))
 
 abbrev μ : tie.MeasureT-loop
-μ s table n i₀ i = n - i
+μ s n t₀ i₀ t i = n - i
 
--- The place where the count is read, and the part there.
-abbrev Read : Type 0
-Read = tie.After-word-at Inv2 μ2 Inv μ
+-- At the loop: what has been read, and the part.
+module _ (l : tie.At-loop Inv μ) where
+  abbrev read : tie.After-actives-at Inv μ
+  read = l .before .before
 
-abbrev part : Read → List ℕ
-part k = k .before .before .args .s .now
+  abbrev start : tie.Start Inv μ
+  start = read .before .before
 
-long : (k : Read) → length (part k) ≡ 768
-long k = k .before .before .pre .0
+  abbrev part : List ℕ
+  part = start .args .s .now
 
-sane : (k : Read) → decodes (part k) ≡ true
-sane k = k .before .before .pre .1 .0
+  count : read .actives-at .result ≡ length (actives part)
+  count = read .actives-at .ensures ∙ some-active (start .pre)
 
-count : (k : Read) → k .word-at .result ≡ decode (part k) .actives
-count k = k .word-at .ensures ∙ actives-read (part k)
+  few : length (actives part) ≤ 8
+  few = few-active (start .pre)
 
-few : (k : Read) → decode (part k) .actives ≤ 8
-few k = good (part k) (long k) (sane k) .active .few
+-- In a turn: the claim at i, and those behind it.
+module _ (a : tie.After-active-at Inv μ) where
+  abbrev walk : tie.At-loop Inv μ
+  walk = a .before .before
 
-many : (k : Read) → length (actives (decode (part k))) ≡ k .word-at .result
-many k = some-active (part k) (long k) (sane k) ∙ sym (count k)
+  here : left (part walk) (walk .loop .i) ≡ a .active-at .result ∷ left (part walk) (walk .loop .i + 1)
+  here = active-turn (start walk .pre) _ _ refl (omega (arith, a .before .loop-test .taken, count walk)) (a .active-at .ensures)
 
--- The claim read at i stands there, and has a method that there is.
-module _ (k : Read) (i : ℕ) (h : i < k .word-at .result) (x : Claim) (e : x ≡ getD (decode (part k) .active) i noClaim) where
-  stands : x ≡ getD (actives (decode (part k))) i noClaim
-  stands = e ∙ active-stands (part k) (long k) (sane k) i (omega (arith, h, count k))
+actives-at-requires : tie.Need-actives-at-requires Inv μ
+actives-at-requires c κs = search needs
 
-  known : x .method < 7
-  known =
-      omega (
-        arith,
-        ap (λ (c : Claim). c .method) e,
-        method-there (part k) (long k) (sane k) (k .before .before .pre .1 .1) i (omega (arith, h, count k)),
-      )
-
-word-at-requires : tie.Need-word-at-requires Inv2 μ2 Inv μ
-word-at-requires c κs = search needs
-
-cast-n : tie.Need-cast-n Inv2 μ2 Inv μ
+cast-n : tie.Need-cast-n Inv μ
 cast-n c = search needs
 
-loop-holds : tie.Need-loop-holds Inv2 μ2 Inv μ
-loop-holds c = refl
+no-totals-requires : tie.Need-no-totals-requires Inv μ
+no-totals-requires c κs = tt
 
-active-at-requires : tie.Need-active-at-requires Inv2 μ2 Inv μ
+loop-holds : tie.Need-loop-holds Inv μ
+loop-holds c = rw (c .no-totals .ensures) (omega arith, refl, refl)
+
+active-at-requires : tie.Need-active-at-requires Inv μ
 active-at-requires c κs =
-    let k = c .before .before in
-    (long k, omega (arith, c .loop-test .taken, count k, few k))
+    let l = c .before in
+    (start l .pre .long, omega (arith, c .loop-test .taken, count l, few l))
 
-cast-row : tie.Need-cast-row Inv2 μ2 Inv μ
-cast-row c = search needs
+keep-out-requires : tie.Need-keep-out-requires Inv μ
+keep-out-requires c κs = tt
 
-add-j : tie.Need-add-j Inv2 μ2 Inv μ
-add-j c =
-    let t = c .before .before in
-    let k = t .before .before in
-    record { fits = omega (arith, t .loop-test .taken, count k, few k) }
+returns : tie.Need-returns Inv μ
+returns c =
+    let a = c .before .before in
+    let l = walk a in
+    sym
+    (sym (meets-is (actives (part l)))
+    ∙ sym (l .loop .inv .1)
+    ∙ meet-not (l .loop .t) (here a) (sym (c .before .keep-out .ensures) ∙ c .if1 .taken))
 
-loop2-holds : tie.Need-loop2-holds Inv2 μ2 Inv μ
-loop2-holds c = refl
-
-active-at-requires-2 : tie.Need-active-at-requires-2 Inv2 μ2 Inv μ
-active-at-requires-2 c κs =
-    let k = c .before .before .before .before .before .before in
-    (long k, omega (arith, c .loop2-test .taken, count k, few k))
-
-cast-col : tie.Need-cast-col Inv2 μ2 Inv μ
-cast-col c = search needs
-
-mul-found : tie.Need-mul-found Inv2 μ2 Inv μ
-mul-found c =
-    let a = c .before .before .before .before .before in
-    let t = a .before in
-    omega (arith, known (t .before .before) (t .before .loop .i) (t .loop-test .taken) (a .active-at .result) (a .active-at .ensures))
-
-index-1-found : tie.Need-index-1-found Inv2 μ2 Inv μ
-index-1-found c =
-    let a = c .before .before .before .before .before in
-    let t = a .before in
-    known (t .before .before) (t .before .loop .i) (t .loop-test .taken) (a .active-at .result) (a .active-at .ensures)
-
-index-2-found : tie.Need-index-2-found Inv2 μ2 Inv μ
-index-2-found c =
-    let b = c .before in
-    let t2 = b .before in
-    let k = t2 .before .before .before .before .before .before in
-    known k (t2 .before .loop2 .j) (t2 .loop2-test .taken) (b .active-at2 .result) (b .active-at2 .ensures)
-
-meets-requires : tie.Need-meets-requires Inv2 μ2 Inv μ
-unfolding diskEntries
-meets-requires c κs =
-    let b = c .before .before in
-    let t2 = b .before in
-    let a = t2 .before .before .before in
-    let t = a .before in
-    let k = t .before .before in (
-      known k (t .before .loop .i) (t .loop-test .taken) (a .active-at .result) (a .active-at .ensures),
-      (known k (t2 .before .loop2 .j) (t2 .loop2-test .taken) (b .active-at2 .result) (b .active-at2 .ensures), refl),
+with-claim-requires : tie.Need-with-claim-requires Inv μ
+with-claim-requires c κs =
+    let l = walk (c .before .before) in
+    omega (
+      arith,
+      sum-within (l .loop .t) (left (part l) (l .loop .i)),
+      ap (λ (t : Totals). t .sum) (l .loop .inv .2),
+      sum-is (actives (part l)),
+      adds-most (λ i. read l .before .shared-slice-known .given i .fits) (start l .pre),
     )
 
-returns : tie.Need-returns Inv2 μ2 Inv μ
-returns c =
-    let b = c .before .before .before .before in
-    let t2 = b .before in
-    let l2 = t2 .before in
-    let a = l2 .before .before in
-    let t = a .before in
-    let l = t .before in
-    let k = l .before in
-    let i = l .loop .i in
-    let ws = actives (decode (part k)) in
-    let x = a .active-at .result in
-    pairs-not ws i meets (omega (arith, t .loop-test .taken, many k))
-    (there (λ z. everyOf (meets z) (drop (i + 1) ws)) (stands k i (t .loop-test .taken) x (a .active-at .ensures))
-    (sym (each-not ws (l2 .loop2 .j) (meets x) (omega (arith, t2 .loop2-test .taken, many k))
-    (there (meets x) (stands k (l2 .loop2 .j) (t2 .loop2-test .taken) (b .active-at2 .result) (b .active-at2 .ensures))
-    (sym (c .before .meets .ensures) ∙ not-true _ (c .if1 .taken)))
-    ∙ l2 .loop2 .inv)))
-    ∙ l .loop .inv
-
-add-j-2 : tie.Need-add-j-2 Inv2 μ2 Inv μ
-add-j-2 c =
-    let t2 = c .before .before .before .before .before in
-    let k = t2 .before .before .before .before .before .before in
-    record { fits = omega (arith, t2 .loop2-test .taken, count k, few k) }
-
-loop2-less : tie.Need-loop2-less Inv2 μ2 Inv μ
-loop2-less c = omega (arith, c .before .before .before .before .before .loop2-test .taken)
-
-loop2-again : tie.Need-loop2-again Inv2 μ2 Inv μ
-loop2-again c =
-    let b = c .before .before .before .before in
-    let t2 = b .before in
-    let l2 = t2 .before in
-    let a = l2 .before .before in
-    let k = a .before .before .before in
-    let x = a .active-at .result in
-    each-on (actives (decode (part k))) (l2 .loop2 .j) (meets x) (omega (arith, t2 .loop2-test .taken, many k))
-    (there (meets x) (stands k (l2 .loop2 .j) (t2 .loop2-test .taken) (b .active-at2 .result) (b .active-at2 .ensures))
-    (sym (c .before .meets .ensures) ∙ not-false _ (c .if1 .left)))
-    ∙ l2 .loop2 .inv
-
-add-i : tie.Need-add-i Inv2 μ2 Inv μ
+add-i : tie.Need-add-i Inv μ
 add-i c =
     let t = c .before .before .before .before in
-    let k = t .before .before in
-    record { fits = omega (arith, t .loop-test .taken, count k, few k) }
+    record { fits = omega (arith, t .loop-test .taken, count (t .before), few (t .before)) }
 
-loop-less : tie.Need-loop-less Inv2 μ2 Inv μ
+loop-less : tie.Need-loop-less Inv μ
 loop-less c = omega (arith, c .before .before .before .before .loop-test .taken)
 
-loop-again : tie.Need-loop-again Inv2 μ2 Inv μ
+loop-again : tie.Need-loop-again Inv μ
 loop-again c =
-    let l2 = c .before in
-    let a = l2 .before .before in
-    let t = a .before in
-    let l = t .before in
-    let k = l .before in
-    let i = l .loop .i in
-    let ws = actives (decode (part k)) in
-    let x = a .active-at .result in
-    pairs-on ws i meets (omega (arith, t .loop-test .taken, many k))
-    (there (λ z. everyOf (meets z) (drop (i + 1) ws)) (stands k i (t .loop-test .taken) x (a .active-at .ensures))
-    (sym (each-end ws (l2 .loop2 .j) (meets x) (omega (arith, c .loop2-test .left, many k)) ∙ l2 .loop2 .inv)))
-    ∙ l .loop .inv
+    let kept = c .before in
+    let a = kept .before .before in
+    let l = walk a in
+    let t = l .loop .t in (
+      omega (arith, a .before .loop-test .taken),
+      meet-on t (here a) (c .with-claim .ensures) (sym (kept .before .keep-out .ensures) ∙ kept .if1 .left) ∙ l .loop .inv .1,
+      totals-on t (here a) (c .with-claim .ensures) ∙ l .loop .inv .2,
+    )
 
-returns-2 : tie.Need-returns-2 Inv2 μ2 Inv μ
+returns-2 : tie.Need-returns-2 Inv μ
 returns-2 c =
     let l = c .before in
-    let k = l .before in
-    pairs-end (actives (decode (part k))) (l .loop .i) meets (omega (arith, c .loop-test .left, many k)) ∙ l .loop .inv
+    let none = none-left (actives (part l)) (l .loop .i) (omega (arith, c .loop-test .left, count l)) in
+    sym (sym (meets-is (actives (part l))) ∙ sym (l .loop .inv .1) ∙ totals-end (l .loop .t) none .1)
 
 pub actives-meet-spec : {M : Type 1} → statement M
 actives-meet-spec =
     tie.close
     (tie.spec
-    Inv2
-    μ2
     Inv
     μ
-    word-at-requires
+    actives-at-requires
     cast-n
+    no-totals-requires
     loop-holds
     active-at-requires
-    cast-row
-    add-j
-    loop2-holds
-    active-at-requires-2
-    cast-col
-    mul-found
-    index-1-found
-    index-2-found
-    meets-requires
+    keep-out-requires
     returns
-    add-j-2
-    loop2-less
-    loop2-again
+    with-claim-requires
     add-i
     loop-less
     loop-again

@@ -1,15 +1,14 @@
 -- Where a test fails the claim does not fit; the last one decides.
 use mathlib.Core.Bool.{Bool}
 use mathlib.Core.List.{List, [], _∷_, _++_}
-use mathlib.Core.Path.{_≡_, sym, ap, _∙_}
+use mathlib.Core.Path.{_≡_, ap, _∙_}
 use borrow.Author.Needs.{needs}
-use borrow.Author.Tests.{not-true, not-false}
 use mir.Facts.{toZ-ofZ}
 use lib.Dec.{leb}
 use Rattle.num.specs.Metric.{size}
 use Rattle.law.specs.Says.{_and_}
 use Rattle.sound.specs.Tests.{activeFront, amountTest, activeBy}
-use Rattle.sound.proofs.TestLaws.{test-fails, test-last, above, within}
+use Rattle.sound.proofs.TestLaws.{failed, went, test-fails, test-last, above, within}
 use Rattle.sound.proofs.alone.active_fits.Statement.{statement}
 use Rattle.sound.proofs.alone.active_fits.Tie as tie
 
@@ -28,7 +27,7 @@ alone-requires c κs = search needs
 
 returns : tie.Need-returns
 unfolding activeBy
-returns c = test-fails (tests (c .before .before .before)) 0 (sym (c .before .alone .ensures) ∙ not-true _ (c .if1 .taken))
+returns c = test-fails (tests (c .before .before .before)) 0 (failed (c .before .alone .ensures) (c .if1 .taken))
 
 if-reading-requires : tie.Need-if-reading-requires
 if-reading-requires c κs = search needs
@@ -53,7 +52,7 @@ returns-3 c =
     let s = alone .before .before .before in
     ap (leb (s .args .c .amount)) (c .before .if-reading2 .ensures)
     ∙ test-last (front s) (amountTest (s .args .c))
-    (sym (alone .before .alone .ensures) ∙ not-false _ (alone .if1 .left)
+    (went (alone .before .alone .ensures) (alone .if1 .left)
     and within _ _ _ _ (size-is (told .before)) (told .before .before .before .if-reading .ensures) (told .if2 .left)
     and tt)
 

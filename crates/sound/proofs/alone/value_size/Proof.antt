@@ -1,11 +1,12 @@
 -- The test of the method chooses.
 use mathlib.Core.Path.{sym, _∙_}
 use borrow.Author.Needs.{needs}
-use borrow.Author.Tests.{eq-eqb, ne-eqb}
 use mir.Facts.{toZ-ofZ}
-use Rattle.sound.proofs.AloneLaws.{state-set}
 use Rattle.sound.proofs.alone.value_size.Statement.{statement}
 use Rattle.sound.proofs.alone.value_size.Tie as tie
+
+sets-state-requires : tie.Need-sets-state-requires
+sets-state-requires c κs = search needs
 
 to-word-requires : tie.Need-to-word-requires
 to-word-requires c κs = search needs
@@ -15,15 +16,15 @@ size-requires c κs = search needs
 
 returns : tie.Need-returns
 returns c =
-    let m = c .before .before .before .before .args .c .method in
-    rw (sym (state-set m) ∙ eq-eqb m 3 (c .before .before .if1 .taken))
+    let t = c .before .before in
+    rw (sym (t .before .sets-state .ensures) ∙ t .if1 .taken)
     (rw (toZ-ofZ (record { sfits = c .before .struct-told .given .1 .1 .1 .1 .1 .0 .1 })) at (c .to-word .ensures))
 
 returns-2 : tie.Need-returns-2
 returns-2 c =
-    let m = c .before .before .before .before .args .c .method in
-    rw (sym (state-set m) ∙ ne-eqb m 3 (c .before .before .if1 .left))
+    let t = c .before .before in
+    rw (sym (t .before .sets-state .ensures) ∙ t .if1 .left)
     (rw (toZ-ofZ (record { sfits = c .before .struct-told2 .given .1 .1 .1 .1 .1 .0 .1 })) at (c .size .ensures .0))
 
 pub value-size-spec : {M : Type 1} → statement M
-value-size-spec = tie.close (tie.spec to-word-requires size-requires returns returns-2)
+value-size-spec = tie.close (tie.spec sets-state-requires to-word-requires size-requires returns returns-2)

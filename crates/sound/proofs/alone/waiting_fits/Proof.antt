@@ -3,13 +3,13 @@ use mathlib.Core.Bool.{Bool}
 use mathlib.Core.List.{List, [], _∷_, _++_}
 use mathlib.Core.Path.{_≡_, sym, _∙_}
 use borrow.Author.Needs.{needs}
-use borrow.Author.Tests.{eq-eqb, ne-eqb, not-true, not-false}
+use borrow.Author.Tests.{eq-eqb, ne-eqb}
 use mir.Facts.{toZ-ofZ}
 use lib.Dec.{eqb}
 use Rattle.num.specs.Metric.{size}
 use Rattle.law.specs.Says.{_and_}
 use Rattle.sound.specs.Tests.{waitingFront, waitingBy}
-use Rattle.sound.proofs.TestLaws.{test-fails, test-last}
+use Rattle.sound.proofs.TestLaws.{failed, went, test-fails, test-last}
 use Rattle.sound.proofs.alone.waiting_fits.Statement.{statement}
 use Rattle.sound.proofs.alone.waiting_fits.Tie as tie
 
@@ -28,7 +28,7 @@ alone-requires c κs = search needs
 
 returns : tie.Need-returns
 unfolding waitingBy
-returns c = test-fails (tests (c .before .before .before)) 0 (sym (c .before .alone .ensures) ∙ not-true _ (c .if1 .taken))
+returns c = test-fails (tests (c .before .before .before)) 0 (failed (c .before .alone .ensures) (c .if1 .taken))
 
 size-requires : tie.Need-size-requires
 size-requires c κs = search needs
@@ -46,7 +46,7 @@ returns-3 c =
     let alone = told .before .before .before in
     let s = alone .before .before .before in
     test-last (front s) (eqb (s .args .c .amount) 0)
-    (sym (alone .before .alone .ensures) ∙ not-false _ (alone .if1 .left)
+    (went (alone .before .alone .ensures) (alone .if1 .left)
     and eq-eqb _ _ (sym (size-is (told .before)) ∙ told .if2 .left)
     and tt)
 

@@ -3,7 +3,6 @@ use borrow.Author.Needs.{needs}
 use mathlib.Core.Path.{_∙_}
 use Rattle.rules.specs.Methods.{figuresOf}
 use Rattle.sound.specs.Tests.{figuresFit}
-use Rattle.sound.proofs.DiskLaws.{clock-read, next-read}
 use Rattle.sound.proofs.figures.figures_hold.Statement.{statement}
 use Rattle.sound.proofs.figures.figures_hold.Tie as tie
 
@@ -16,23 +15,25 @@ promised-at-requires c κs = search needs
 state-at-requires : tie.Need-state-at-requires
 state-at-requires c κs = search needs
 
-word-at-requires : tie.Need-word-at-requires
-word-at-requires c κs = search needs
+clock-at-requires : tie.Need-clock-at-requires
+clock-at-requires c κs = search needs
 
-word-at-requires-2 : tie.Need-word-at-requires-2
-word-at-requires-2 c κs = search needs
+next-at-requires : tie.Need-next-at-requires
+next-at-requires c κs = search needs
 
 figures-fit-requires : tie.Need-figures-fit-requires
 figures-fit-requires c κs = search needs
 
 returns : tie.Need-returns
 returns c =
-    let w = c .before .before in
-    let k = w .before in
+    let n = c .before in
+    let k = n .before in
+    let s = k .before in
+    let p = s .before in
     c .figures-fit .ensures
     ∙ (λ i.
-    figuresFit (figuresOf (k .before .before .used-at .ensures i) (k .before .promised-at .ensures i) (k .state-at .ensures i))
-    ((w .word-at .ensures ∙ clock-read _) i) ((c .before .word-at2 .ensures ∙ next-read _) i))
+    figuresFit (figuresOf (p .before .used-at .ensures i) (p .promised-at .ensures i) (s .state-at .ensures i))
+    (k .clock-at .ensures i) (n .next-at .ensures i))
 
 pub figures-hold-spec : {M : Type 1} → statement M
 figures-hold-spec =
@@ -41,7 +42,7 @@ figures-hold-spec =
     used-at-requires
     promised-at-requires
     state-at-requires
-    word-at-requires
-    word-at-requires-2
+    clock-at-requires
+    next-at-requires
     figures-fit-requires
     returns)

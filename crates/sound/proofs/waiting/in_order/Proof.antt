@@ -1,53 +1,69 @@
 -- The neighbours before i are in order, and those from the one in front of i on decide; neighbours in order are all in order.
 use borrow.Author.Needs.{needs}
-use Prim.Native.Nat.{ℕ, _+_, _-_, _<_, _≤_}
-use mathlib.Core.Bool.{true}
-use mathlib.Core.List.{List}
+use Prim.Native.Nat.{ℕ, _+_, _-_, _≤_}
+use mathlib.Core.List.{List, _∷_}
 use mathlib.Core.Path.{_≡_, refl, sym, ap, _∙_}
 use native.Mathlib.Omega.{arith}
-use borrow.Author.Tests.{not-true, not-false}
 use lib.ListN.{length, drop}
+use Rattle.law.specs.declared.Claim.{Claim}
 use Rattle.law.specs.Calls.{before}
-use Rattle.part.specs.Layout.{decode, decodes}
-use Rattle.sound.proofs.WalkLaws.{there, neighbours, next-on, next-not, next-end, order-is}
-use Rattle.sound.proofs.DiskLaws.{waitings, waitings-read, some-waiting, waiting-stands, good}
+use Rattle.sound.proofs.TestLaws.{failed, went}
+use Rattle.sound.proofs.WalkLaws.{neighbours, next-on, next-not, next-end, order-is}
+use Rattle.sound.proofs.DiskLaws.{waitings, some-waiting, few-waiting, waiting-turn}
 use Rattle.sound.proofs.waiting.in_order.Statement.{statement}
 use Rattle.sound.proofs.waiting.in_order.Tie as tie
 
+-- The waiting claims from i on.
+abbrev left : List ℕ → ℕ → List Claim
+left s i = drop i (waitings s)
+
 abbrev Inv : tie.InvT-loop
-Inv s m i₀ i =
-    (1 ≤ i) × (neighbours before (drop (i - 1) (waitings (decode s))) ≡ neighbours before (waitings (decode s)))
+Inv s n i₀ i = (1 ≤ i) × (neighbours before (left s (i - 1)) ≡ neighbours before (left s 0))
 
 abbrev μ : tie.MeasureT-loop
-μ s m i₀ i = m - i
+μ s n i₀ i = n - i
 
--- The place where the count is read, and the part there.
-abbrev Read : Type 0
-Read = tie.After-word-at Inv μ
+-- At the loop: the part, and how many claims wait.
+module _ (l : tie.At-loop Inv μ) where
+  abbrev start : tie.Start Inv μ
+  start = l .before .before .before
 
-abbrev part : Read → List ℕ
-part k = k .before .before .args .s .now
+  abbrev part : List ℕ
+  part = start .args .s .now
 
-long : (k : Read) → length (part k) ≡ 768
-long k = k .before .before .pre .0
+  count : l .before .waitings-at .result ≡ length (waitings part)
+  count = l .before .waitings-at .ensures ∙ some-waiting (start .pre)
 
-sane : (k : Read) → decodes (part k) ≡ true
-sane k = k .before .before .pre .1
+  few : length (waitings part) ≤ 8
+  few = few-waiting (start .pre)
 
-count : (k : Read) → k .word-at .result ≡ decode (part k) .waitings
-count k = k .word-at .ensures ∙ waitings-read (part k)
+-- In a turn: two neighbours, and whether they are in order.
+module _ (b : tie.After-before2 Inv μ) where
+  abbrev second : tie.After-waiting-at2 Inv μ
+  second = b .before
 
-few : (k : Read) → decode (part k) .waitings ≤ 8
-few k = good (part k) (long k) (sane k) .waiting .few
+  abbrev test : tie.In-loop Inv μ
+  test = second .before .before
 
-many : (k : Read) → length (waitings (decode (part k))) ≡ decode (part k) .waitings
-many k = some-waiting (part k) (long k) (sane k)
+  abbrev walk : tie.At-loop Inv μ
+  walk = test .before
 
-word-at-requires : tie.Need-word-at-requires Inv μ
-word-at-requires c κs = search needs
+  abbrev i : ℕ
+  i = walk .loop .i
 
-cast-m : tie.Need-cast-m Inv μ
-cast-m c = search needs
+  front : left (part walk) (i - 1) ≡ second .before .waiting-at .result ∷ left (part walk) i
+  front =
+      waiting-turn (start walk .pre) (i - 1) i (omega (arith, walk .loop .inv .0)) (omega (arith, test .loop-test .taken, count walk))
+      (second .before .waiting-at .ensures)
+
+  back : left (part walk) i ≡ second .waiting-at2 .result ∷ left (part walk) (i + 1)
+  back = waiting-turn (start walk .pre) _ _ refl (omega (arith, test .loop-test .taken, count walk)) (second .waiting-at2 .ensures)
+
+waitings-at-requires : tie.Need-waitings-at-requires Inv μ
+waitings-at-requires c κs = search needs
+
+cast-n : tie.Need-cast-n Inv μ
+cast-n c = search needs
 
 loop-holds : tie.Need-loop-holds Inv μ
 loop-holds c = (omega arith, refl)
@@ -57,67 +73,48 @@ sub-waiting-at c = c .before .loop .inv .0
 
 waiting-at-requires : tie.Need-waiting-at-requires Inv μ
 waiting-at-requires c κs =
-    let k = c .before .before in
-    (long k, omega (arith, c .loop-test .taken, count k, few k))
+    let l = c .before in
+    (start l .pre .long, omega (arith, c .loop-test .taken, count l, few l))
 
 waiting-at-requires-2 : tie.Need-waiting-at-requires-2 Inv μ
 waiting-at-requires-2 c κs =
-    let t = c .before in
-    let k = t .before .before in
-    (long k, omega (arith, t .loop-test .taken, count k, few k))
+    let l = c .before .before in
+    (start l .pre .long, omega (arith, c .before .loop-test .taken, count l, few l))
 
 before-requires : tie.Need-before-requires Inv μ
 before-requires c κs = tt
 
 returns : tie.Need-returns Inv μ
 returns c =
-    let t = c .before .before .before .before in
-    let l = t .before in
-    let k = l .before in
-    let s = part k in
-    let i = l .loop .i in
-    let lt : i < decode s .waitings = omega (arith, t .loop-test .taken, count k) in
-    let x = c .before .before .before .waiting-at .ensures ∙ waiting-stands s (long k) (sane k) (i - 1) (omega (arith, lt)) in
-    let y = c .before .before .waiting-at2 .ensures ∙ waiting-stands s (long k) (sane k) i lt in
-    next-not before (waitings (decode s)) (i - 1) i (omega (arith, l .loop .inv .0)) (omega (arith, lt, many k))
-    (sym (λ j. before (x j) (y j)) ∙ sym (c .before .before2 .ensures) ∙ not-true _ (c .if1 .taken))
-    ∙ l .loop .inv .1 ∙ order-is (waitings (decode s))
+    let b = c .before in
+    let l = walk b in
+    sym (next-not before (front b) (back b) (failed (b .before2 .ensures) (c .if1 .taken)))
+    ∙ l .loop .inv .1
+    ∙ order-is (waitings (part l))
 
 add-i : tie.Need-add-i Inv μ
 add-i c =
-    let t = c .before .before .before .before in
-    let k = t .before .before in
-    record { fits = omega (arith, t .loop-test .taken, count k, few k) }
+    let l = walk (c .before) in
+    record { fits = omega (arith, test (c .before) .loop-test .taken, count l, few l) }
 
 loop-less : tie.Need-loop-less Inv μ
-loop-less c = omega (arith, c .before .before .before .before .loop-test .taken)
+loop-less c = omega (arith, test (c .before) .loop-test .taken)
 
 loop-again : tie.Need-loop-again Inv μ
 loop-again c =
-    let t = c .before .before .before .before in
-    let l = t .before in
-    let k = l .before in
-    let s = part k in
-    let i = l .loop .i in
-    let lt : i < decode s .waitings = omega (arith, t .loop-test .taken, count k) in
-    let x = c .before .before .before .waiting-at .ensures ∙ waiting-stands s (long k) (sane k) (i - 1) (omega (arith, lt)) in
-    let y = c .before .before .waiting-at2 .ensures ∙ waiting-stands s (long k) (sane k) i lt in
-    let back : i + 1 - 1 ≡ i = omega arith in (
+    let b = c .before in
+    let same : i b + 1 - 1 ≡ i b = omega arith in (
       omega arith,
-      ap (λ (j : ℕ). neighbours before (drop j (waitings (decode s)))) back
-          ∙ next-on before (waitings (decode s)) (i - 1) i (omega (arith, l .loop .inv .0)) (omega (arith, lt, many k))
-          (sym (λ j. before (x j) (y j)) ∙ sym (c .before .before2 .ensures) ∙ not-false _ (c .if1 .left))
-          ∙ l .loop .inv .1,
+      ap (λ (j : ℕ). neighbours before (left (part (walk b)) j)) same
+          ∙ next-on before (front b) (back b) (went (b .before2 .ensures) (c .if1 .left))
+          ∙ walk b .loop .inv .1,
     )
 
 returns-2 : tie.Need-returns-2 Inv μ
 returns-2 c =
     let l = c .before in
-    let k = l .before in
-    let i = l .loop .i in
-    let ws = waitings (decode (part k)) in
-    next-end before ws (i - 1) i (omega (arith, l .loop .inv .0)) (omega (arith, c .loop-test .left, count k, many k))
-    ∙ l .loop .inv .1 ∙ order-is ws
+    let ws = waitings (part l) in
+    sym (next-end before ws (l .loop .i - 1) (omega (arith, c .loop-test .left, count l))) ∙ l .loop .inv .1 ∙ order-is ws
 
 pub in-order-spec : {M : Type 1} → statement M
 in-order-spec =
@@ -125,8 +122,8 @@ in-order-spec =
     (tie.spec
     Inv
     μ
-    word-at-requires
-    cast-m
+    waitings-at-requires
+    cast-n
     loop-holds
     sub-waiting-at
     waiting-at-requires
