@@ -8,29 +8,22 @@ use native.Mathlib.Omega.{arith}
 use lib.Dec.{ltb}
 use lib.ListN.{length}
 use Rattle.law.specs.declared.Claim.{Claim}
-use Rattle.law.specs.Base.{allTrue, anyOf, everyOf, sumOf}
+use Rattle.law.specs.Base.{allTrue, anyOf, everyOf}
 use Rattle.law.specs.Lists.{never-true}
-use Rattle.law.specs.Types.{mostValue, a1, Figures}
+use Rattle.law.specs.Types.{a1, Figures}
 use Rattle.law.specs.Entries.{entry, isNever}
 use Rattle.law.specs.Granting.{addsOn, total, lockStep, bars, granted}
-use Rattle.law.specs.Sound.{Sound}
 use Rattle.law.specs.DiskType.{diskTable}
 use Rattle.rules.specs.Methods.{preOf}
-use Rattle.rules.specs.Pairs.{coreOf, addOf, barsBy}
+use Rattle.rules.specs.Pairs.{coreOf, barsBy}
 use Rattle.rules.proofs.EntryLaws.{last-test}
 use Rattle.rules.proofs.RuleLaws.{pre-is}
-use Rattle.rules.specs.declared.disk.Disk.{Disk}
-use Rattle.rules.specs.Disks.{diskOf}
-use Rattle.judge.specs.Decisions.{barsAt, barsOf, activesIn, DecidedIs}
+use Rattle.judge.specs.Decisions.{barsAt, barsOf, DecidedIs}
 use Rattle.judge.proofs.WalkLaws.{any-same, lock-is}
 
 pub from-not : (b v : Bool) → not b ≡ v → b ≡ not v
 from-not true v h = ap not h
 from-not false v h = ap not h
-
-no-place : (l : Bool) → false ≡ (l && (false && true))
-no-place true = refl
-no-place false = refl
 
 -- A test that fails, whatever the others answer.
 last-fails : (a b c : Bool) → false ≡ allTrue (a ∷ b ∷ c ∷ false ∷ [])
@@ -108,11 +101,7 @@ module _ (f : Figures) (now : ℕ) (ws ahead : List Claim) (c : Claim) where
       pub not-locked : lockStep diskTable (coreOf f 0 ws) c ≡ false → false ≡ granted diskTable (coreOf f now ws) ahead c
       not-locked l = rw (← granted-is, ← e, h, g, l)
 
-      -- There is no place.
-      pub not-placed : 8 ≤ length ws → false ≡ granted diskTable (coreOf f now ws) ahead c
-      not-placed l = rw (← granted-is, ← e, h, g, le-ltb (length ws) 8 l) (no-place (lockStep diskTable (coreOf f 0 ws) c))
-
-      -- There is one: then the lock step decides.
+      -- There is a place: then the lock step decides.
       pub all-else : length ws < 8 → lockStep diskTable (coreOf f 0 ws) c ≡ granted diskTable (coreOf f now ws) ahead c
       all-else l = rw (← granted-is, ← e, h, g, lt-ltb (length ws) 8 l) (last-test (lockStep diskTable (coreOf f 0 ws) c))
 
@@ -120,8 +109,3 @@ module _ (f : Figures) (now : ℕ) (ws ahead : List Claim) (c : Claim) where
 pub refusal : (f : Figures) (now : ℕ) (ws ahead : List Claim) (c : Claim) → false ≡ granted diskTable (coreOf f now ws) ahead c →
     DecidedIs false 0 (coreOf f now ws) ahead c
 refusal f now ws ahead c h = record { says = h; counts = λ q. never-true (0 ≡ total diskTable (coreOf f now ws) c) q; fails = λ q. refl }
-
--- The active adds of a sound disk are in range.
-pub adds-most : (d : Disk) → Sound diskTable (diskOf d) → sumOf addOf (activesIn d) ≤ mostValue
-unfolding addOf
-adds-most d h = omega (arith, h .sums a1)

@@ -1,4 +1,3 @@
 -- Laws of the decision.
 pub mod WalkLaws
 pub mod DecideLaws
-pub mod ReadLaws

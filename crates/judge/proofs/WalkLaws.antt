@@ -5,7 +5,6 @@ use mathlib.Core.List.{List, [], _∷_}
 use mathlib.Core.Path.{_≡_, refl, sym, ap, _∙_}
 use native.Mathlib.Numerals.{add-one}
 use native.Mathlib.Omega.{arith}
-use lib.Bits.{bitAnd}
 use lib.Dec.{leb}
 use lib.ListN.{length, take, drop, getD, drop-of-length-le}
 use lib.Seq.{length-take-le, drop-cons, getD-take}
@@ -21,9 +20,9 @@ use Rattle.law.specs.Granting.{limitBy, gapBy, costBy, raisesBy, start, cost, s
 use Rattle.law.specs.DiskType.{diskTable}
 use Rattle.rules.specs.Rows.{noClaim}
 use Rattle.rules.specs.Methods.{isReading}
-use Rattle.rules.specs.Masks.{methodsOf, otherMask}
+use Rattle.rules.specs.Totals.{totalsOf, haveSay}
 use Rattle.rules.specs.Pairs.{coreOf, letsBy, costOn, costBetween, raiseOf, barsBy}
-use Rattle.rules.proofs.MaskLaws.{all-always}
+use Rattle.rules.proofs.TotalsLaws.{all-always}
 use Rattle.judge.specs.Decisions.{letsOf, costOf, barsAt}
 
 -- ---- tests and sums of two functions that agree
@@ -177,7 +176,7 @@ module _ (f : Figures) (c : Claim) where
       by-entry D h = never-true (costBetween f D (isReading (kindOf diskTable c)) c w ≡ 0) h
       by-entry G h = never-true (costBetween f G (isReading (kindOf diskTable c)) c w ≡ 0) h
 
-  module _ (ws : List Claim) (e : bitAnd (methodsOf ws) (otherMask (c .method)) ≡ 0) where
+  module _ (ws : List Claim) (e : haveSay (totalsOf ws) (c .method) ≡ false) where
     pub all-let : true ≡ everyOf (letsOf f c) ws
     all-let = every-let ws (all-always c ws e)
       where

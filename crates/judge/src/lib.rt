@@ -1,79 +1,52 @@
 // A claim judged on the lent part of its disk: the figures and the claims are read where they stand.
 
-ghost use mathlib.Core.Bool.{true};
 ghost use mathlib.Core.Path.{_≡_};
-ghost use lib.ListN.{length};
-ghost use Rattle.law.specs.Base.{sumOf};
 ghost use Rattle.law.specs.Calls.{claim as lawClaim};
-ghost use Rattle.law.specs.Sound.{Sound};
 ghost use Rattle.law.specs.DiskType.{diskTable};
-ghost use Rattle.rules.specs.Pairs.{addOf};
-ghost use Rattle.rules.specs.Masks.{methodsOf};
-ghost use Rattle.rules.specs.Disks.{diskOf};
-ghost use Rattle.rules.specs.Answers.{askedOf, shownBy};
-ghost use Rattle.part.specs.Layout.{decodes, decode};
-ghost use Rattle.judge.specs.Decisions.{activesIn};
+ghost use Rattle.rules.specs.Answers.{answerBy, NewOn, requestOf};
+ghost use Rattle.rules.specs.Totals.{totalsOf};
+ghost use Rattle.part.specs.Held.{held, HoldsSound};
 use crate::decision::decide;
+use answer::Answer;
+use answer::Refusal;
+use law::Claim;
+use law::limits::PLACES;
 use num::signed::narrow;
-use num::word::word_at;
+use part::read::clock_at;
 use part::read::promised_at;
 use part::read::state_at;
 use part::read::used_at;
-use rules::calls::Judgement;
-use rules::calls::asked;
-use rules::calls::unjudged;
-use rules::disk::Asked;
-use rules::disk::Item;
+use part::read::waitings_at;
+use rules::fields::Tested;
 use rules::fields::checked;
 use rules::figures::told;
+use rules::totals::Totals;
 
 pub mod decision;
 
-const PLACES: u32 = 8;
-
-// What a claim on the disk of a part comes to, with what its active claims come to together; nothing is changed.
-pub fn judged(s: &[u8], q: Asked, adds: u64, methods: u64) -> Judgement
-    requires { ⌜ length (now s) ≡ 768 ⌝ }
-    requires { ⌜ decodes (now s) ≡ true ⌝ }
-    requires { ⌜ Sound diskTable (diskOf (decode (now s))) ⌝ }
-    requires { ⌜ adds ≡ sumOf addOf (activesIn (decode (now s))) ⌝ }
-    requires { ⌜ methods ≡ methodsOf (activesIn (decode (now s))) ⌝ }
-    ensures { λ r. ⌜ r ≡ shownBy (lawClaim diskTable (diskOf (decode (now (s .entry)))) (askedOf q)) ⌝ }
+// The answer to the new claim c at that second, on the disk of a part whose active claims have these totals. Nothing is changed.
+pub fn judged(s: &[u8], c: Claim, second: u32, t: Totals) -> Answer
+    requires { ⌜ HoldsSound (now s) ⌝ }
+    requires { ⌜ NewOn (held (now s)) c ⌝ }
+    requires { ⌜ t ≡ totalsOf (held (now s) .core .active) ⌝ }
+    ensures { λ r. ⌜ r ≡ answerBy (lawClaim diskTable (held (now (s .entry))) (requestOf second c)) ⌝ }
 {
-    let second = q.now;
-    let next = word_at(s, 4);
-    let c = asked(q, next);
     let used = used_at(s);
     let promised = promised_at(s);
     let state = state_at(s);
-    let number = checked(c, second, word_at(s, 0), used, promised, state);
-    if number != 0 {
-        return unjudged(number);
+    let tested = checked(c, second, clock_at(s), used, promised, state);
+    if let Tested::Refused(r) = tested {
+        return Answer::Refused(r);
     }
-    let waitings = word_at(s, 12);
-    let verdict = decide(s, waitings as usize, c, second, adds, methods);
+    let waitings = waitings_at(s);
+    let verdict = decide(s, waitings as usize, c, second, t);
     if verdict.ok {
         let present = narrow(told(c.method, used, promised, state));
-        return Judgement {
-            refusal: 0,
-            own: Item {
-                code: 0,
-                ticket: next,
-                told: present,
-                amount: verdict.total as u32,
-            },
-        };
+        let total = verdict.total as u32;
+        return Answer::Granted(c.ticket, present, total);
     }
     if PLACES <= waitings {
-        return unjudged(20);
+        return Answer::Refused(Refusal::Full);
     }
-    Judgement {
-        refusal: 0,
-        own: Item {
-            code: 1,
-            ticket: next,
-            told: 0,
-            amount: 0,
-        },
-    }
+    Answer::Waits(c.ticket)
 }

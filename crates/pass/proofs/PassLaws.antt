@@ -4,31 +4,26 @@ use mathlib.Core.Bool.{Bool, true, false}
 use mathlib.Core.List.{List, [], _∷_, _++_, map}
 use mathlib.Core.Path.{_≡_, refl, sym, ap, _∙_}
 use native.Mathlib.Omega.{arith}
-use borrow.Author.Tests.{eqb-true, eqb-false}
-use lib.Bits.{bitOr}
-use lib.ListN.{length, take, drop, set, getD, length-append}
+use borrow.Author.Tests.{eqb-false}
+use lib.ListN.{length, take, drop, set, length-append}
 use lib.Dec.{eqb}
 use lib.Seq.{take-take}
 use Rattle.num.specs.Runs.{splice}
 use Rattle.law.specs.declared.Attr.{Attr}
 use Rattle.law.specs.declared.Claim.{Claim}
-use Rattle.law.specs.Base.{sumOf, All}
+use Rattle.law.specs.Base.{All}
 use Rattle.law.specs.Types.{mostError, Attribute, Figures, attr, Core, Item as LawItem, Disk as LawDisk}
 use Rattle.law.specs.Entries.{kindOf}
 use Rattle.law.specs.Lists.{all-say, all-right}
 use Rattle.law.specs.Fields.{ValueFits}
-use Rattle.law.specs.Granting.{withAmount, noteBy, total, granted, raised, asGranted, grant, grantItem}
+use Rattle.law.specs.Granting.{withAmount, noteBy, total, granted, grant, grantItem}
 use Rattle.law.specs.Calls.{Passing, turn, passOver, pass}
 use Rattle.law.specs.Sound.{Passes, Sound}
 use Rattle.law.specs.DiskType.{diskTable}
 use Rattle.law.specs.GrantLaws.{MayGrant}
 use Rattle.law.specs.ProperLaws.{proper-kind, disk-proper}
 use Rattle.law.specs.AttributeLaws.{note-same}
-use Rattle.rules.specs.Rows.{Row, noClaim}
 use Rattle.rules.specs.RowLaws.{row-length, left-on, left-end, store-row, store-front, store-left}
-use Rattle.rules.specs.Masks.{methodBit, methodsOf}
-use Rattle.rules.specs.Pairs.{addOf}
-use Rattle.rules.proofs.LeftLaws.{methods-last, methods-same, sum-last, adds-same}
 use Rattle.rules.specs.declared.disk.Disk.{Disk}
 use Rattle.rules.specs.Disks.{figuresIn, coreIn, diskOf, Good, DiskIs, grantOf, ToldFits}
 use Rattle.rules.proofs.RangeLaws.{limit-most, error-most, limit-range, told-most}
@@ -36,7 +31,7 @@ use Rattle.answer.specs.declared.Answer.{Answer}
 use Rattle.answer.specs.Answers.{itemBytes, answerBytes, Behind}
 use Rattle.answer.specs.AnswerLaws.{one-more}
 use Rattle.change.specs.Holding.{withWaiting}
-use Rattle.judge.specs.Decisions.{activesIn, BeforeLast}
+use Rattle.judge.specs.Decisions.{activesIn}
 use Rattle.pass.specs.Turns.{grantAnswer, tried, front, TurnFits, TurnBy, Turned, closedAt, passedOf}
 
 -- ---- what is told and counted
@@ -241,48 +236,6 @@ module _ {d e : Disk} {answers : List LawItem} {i k : ℕ} (g : Going d e answer
       ap (passOver diskTable (passing (coreIn e) (front e k) answers)) (sym (left-end (g .good .waiting) i (omega (arith, g .waits))))
       ∙ g .goes
 
--- ---- what the active claims come to
-
--- The last of a row.
-row-last : {ws : List Claim} {n : ℕ} → Row ws n → (xs : List Claim) (y : Claim) → take n ws ≡ xs ++ (y ∷ []) →
-    (0 < n) × (getD ws (n - 1) noClaim ≡ y)
-row-last {ws} {n} row xs y e =
-    let size : n ≡ length xs + 1 = sym (row-length row) ∙ ap length e ∙ length-append xs (y ∷ []) in
-    let place : n - 1 ≡ length xs = omega (arith, size) in (
-      omega (arith, size),
-      ap (λ (j : ℕ). getD ws j noClaim) place
-          ∙ ap (λ (l : List Claim). getD l 0 noClaim)
-          (sym (left-on row (length xs) (omega (arith, size))) ∙ ap (drop (length xs)) e ∙ past xs),
-    )
-  where
-    past : (xs : List Claim) → drop (length xs) (xs ++ (y ∷ [])) ≡ y ∷ []
-    past [] = refl
-    past (x ∷ xs) = past xs
-
--- After a grant: the claim granted is the last, and the others, raised or not, have the methods and values that they had.
-module _ (e r : Disk) (c : Claim) (w : DiskIs r (grantOf (diskOf e) c)) where
-  abbrev others : List Claim
-  others = map (raised diskTable (coreIn e) c) (activesIn e)
-
-  abbrev own : Claim
-  own = asGranted diskTable (coreIn e) c
-
-  actives-are : activesIn r ≡ others ++ (own ∷ [])
-  unfolding grant
-  actives-are = ap (λ (x : LawDisk). x .core .active) (w .is)
-
-  grant-grows : {adds methods : ℕ} → adds ≡ sumOf addOf (activesIn e) → methods ≡ methodsOf (activesIn e) → BeforeLast adds methods r
-  grant-grows {adds} {methods} a m =
-      let l = row-last (w .good .active) others own actives-are in (
-        l .0,
-        ap (sumOf addOf) actives-are
-            ∙ sum-last addOf others own
-            ∙ (λ j. (adds-same (raised diskTable (coreIn e) c) (λ x. refl) (λ x. refl) (activesIn e) ∙ sym a) j + addOf (sym (l .1) j)),
-        ap methodsOf actives-are
-            ∙ methods-last others own
-            ∙ (λ j. bitOr ((methods-same (raised diskTable (coreIn e) c) (λ x. refl) (activesIn e) ∙ sym m) j) (methodBit (sym (l .1) j .method))),
-      )
-
 -- ---- the answer buffer
 
 -- One more grant behind the call's own answer.
@@ -332,15 +285,6 @@ module _ {d e : Disk} {a b : List ℕ} {i k : ℕ} (g : Run d e a b i k) (h : i 
           rw (t .0)
           (record { answers = g .answers; going = going-wait (g .going) h q (t .1); behind = rw (t .2) (g .behind) })
 
-  -- A turn after which no more wait has granted its claim, which stands last; the others come to what they came to.
-  pub turn-grows : (r : Disk) (c : List ℕ) (n : ℕ) → Turned e r b c i k n → eqb n k ≡ true → {adds methods : ℕ} →
-      adds ≡ sumOf addOf (activesIn e) → methods ≡ methodsOf (activesIn e) → BeforeLast adds methods r
-  turn-grows r c n t q {adds} {methods} a m = go (granted diskTable (coreIn e) (front e k) (tried e i)) t
-    where
-      go : (v : Bool) → TurnBy v e r b c i k n → BeforeLast adds methods r
-      go true t = grant-grows e r (tried e i) (t .1) a m
-      go false t = absurd (omega (arith, t .0, eqb-true n k q))
-
   -- A turn after which one more waits leaves the active claims.
   pub turn-keeps : (r : Disk) (c : List ℕ) (n : ℕ) → Turned e r b c i k n → eqb n k ≡ false → activesIn r ≡ activesIn e
   turn-keeps r c n t q = go (granted diskTable (coreIn e) (front e k) (tried e i)) t
@@ -359,3 +303,17 @@ module _ {d e : Disk} {a b : List ℕ} {i k : ℕ} (g : Run d e a b i k) (h : d 
 
   pub run-behind : Behind a (map grantAnswer (pass diskTable (coreIn d) (take (d .waitings) (d .waiting)) .items)) b
   run-behind = rw (sym (ap (λ (p : Passing). p .items) (going-end (g .going) h))) (g .behind)
+
+-- ---- nothing waits
+
+module _ (d : Disk) (h : d .waitings ≡ 0) where
+  none-waits : take (d .waitings) (d .waiting) ≡ []
+  none-waits = ap (λ (n : ℕ). take n (d .waiting)) h
+
+  pub idle-disk : diskOf d ≡ passedOf (diskOf d)
+  unfolding passedOf passOver
+  idle-disk = rw none-waits
+
+  pub idle-behind : (a : List ℕ) → Behind a (map grantAnswer (pass diskTable (coreIn d) (take (d .waitings) (d .waiting)) .items)) a
+  unfolding passOver
+  idle-behind a = rw none-waits (λ own e. e)

@@ -1,149 +1,149 @@
--- What is left of the pass, over the disk so far, is the pass of the law: each turn keeps it, by PassLaws; and what the active claims
--- come to is kept up to date.
-use Prim.Native.Nat.{ℕ, _+_, _-_, _*_, _≤_, _<_}
+-- Where nothing waits nothing is done. Else what is left of the pass, over the disk so far, is the pass of the law: each turn keeps
+-- it, by PassLaws, and the totals are those of the active claims so far.
+use Prim.Native.Nat.{ℕ, _-_, _≤_, _<_}
 use mathlib.Core.Path.{_≡_, sym, ap, _∙_, subst}
 use native.Mathlib.Omega.{arith}
 use borrow.Author.Needs.{needs}
 use lib.ListN.{length}
-use Rattle.law.specs.Base.{sumOf}
-use Rattle.rules.specs.Masks.{methodsOf}
-use Rattle.rules.specs.Pairs.{addOf}
+use Rattle.law.specs.Types.{Disk as LawDisk}
 use Rattle.rules.specs.declared.disk.Disk.{Disk}
-use Rattle.rules.specs.Disks.{DiskIs}
+use Rattle.rules.specs.Totals.{totalsOf}
 use Rattle.part.specs.Layout.{decode}
-use Rattle.part.specs.LayoutLaws.{decode-good}
+use Rattle.part.specs.Held.{partFor, HoldsDisk}
+use Rattle.part.specs.PartLaws.{disk-good, sound-part, part-held}
 use Rattle.judge.specs.Decisions.{activesIn}
-use Rattle.judge.proofs.DecideLaws.{adds-most}
-use Rattle.change.specs.Holding.{Holds}
-use Rattle.change.specs.HoldingLaws.{decodes-holds, holds-part}
-use Rattle.pass.proofs.PassLaws.{Run, kept, turn-fits, turn-grows, turn-keeps, run-start, run-turn, run-disk, run-behind}
+use Rattle.pass.proofs.PassLaws.{Run, kept, turn-fits, turn-keeps, run-start, run-turn, run-disk, run-behind, idle-disk, idle-behind}
 use Rattle.pass.proofs.pass.Statement.{statement}
 use Rattle.pass.proofs.pass.Tie as tie
 
-abbrev Inv-loop : tie.InvT-loop
-Inv-loop s₀ answer₀ sum mask n adds₀ methods₀ i₀ k₀ s answer adds methods i k =
-    (length s ≡ 768)
-    × (length answer ≡ 144)
-    × Holds s (decode s)
+abbrev Inv : tie.InvT-loop
+Inv s₀ answer₀ n t₀ i₀ k₀ s answer t i k =
+    (length answer ≡ 144)
+    × HoldsDisk s
     × Run (decode s₀) (decode s) answer₀ answer i k
-    × (adds ≤ 1000000000 + i * 2147483648)
-    × (adds ≡ sumOf addOf (activesIn (decode s)))
-    × (methods ≡ methodsOf (activesIn (decode s)))
+    × (t ≡ totalsOf (activesIn (decode s)))
 
-abbrev μ-loop : tie.MeasureT-loop
-μ-loop s₀ answer₀ sum mask n adds₀ methods₀ i₀ k₀ s answer adds methods i k = n - i
+abbrev μ : tie.MeasureT-loop
+μ s₀ answer₀ n t₀ i₀ k₀ s answer t i k = n - i
+
+-- ---- the stops: the count read, and the walk
+
+abbrev at-count : tie.After-waitings-at Inv μ → tie.Start Inv μ
+at-count w = w .before .before .before .before
+
+abbrev counted : tie.After-totals-at Inv μ → tie.After-waitings-at Inv μ
+counted r = r .before .before .before
+
+abbrev walk : tie.In-loop Inv μ → tie.After-totals-at Inv μ
+walk t = t .before .before
 
 -- The disk of the part.
-abbrev disk : tie.Start Inv-loop μ-loop → Disk
+abbrev disk : tie.Start Inv μ → Disk
 disk k = decode (k .args .s .now)
 
 -- The number read is how many wait.
-count : (k : tie.After-word-at Inv-loop μ-loop) → k .word-at .result ≡ disk (k .before .before .before .before) .waitings
-unfolding decode
-count k = k .word-at .ensures
-
-word-at-requires : tie.Need-word-at-requires Inv-loop μ-loop
-word-at-requires c κs = search needs
-
-cast-n : tie.Need-cast-n Inv-loop μ-loop
-cast-n c = search needs
-
-loop-holds : tie.Need-loop-holds Inv-loop μ-loop
-loop-holds c =
-    let k = c .before .before .before .before in
-    let s = k .args .s .now in
-    let sound = k .pre .1 .1 .0 in
-    let sum = k .pre .1 .1 .1 .1 .1 .0 in (
-      k .pre .0,
-      k .pre .1 .1 .1 .0,
-      decodes-holds s (λ i. c .before .before .before .slice-known .given i .fits) (k .pre .0) (k .pre .1 .0),
-      run-start (disk k) (k .args .answer .now) (decode-good s (k .pre .0) (k .pre .1 .0)) sound,
-      omega (arith, sum, adds-most (disk k) sound),
-      sum,
-      k .pre .1 .1 .1 .1 .1 .1,
-    )
+count : (w : tie.After-waitings-at Inv μ) → w .waitings-at .result ≡ disk (at-count w) .waitings
+count w = w .waitings-at .ensures
 
 -- In a turn not all have been looked at.
-more : (t : tie.In-loop Inv-loop μ-loop) → t .before .loop .i < disk (t .before .before .before .before .before .before) .waitings
-more t = subst (λ (m : ℕ). t .before .loop .i < m) (count (t .before .before)) (t .loop-test .taken)
+more : (t : tie.In-loop Inv μ) → t .before .loop .i < disk (at-count (counted (walk t))) .waitings
+more t = subst (λ (m : ℕ). t .before .loop .i < m) (count (counted (walk t))) (t .loop-test .taken)
 
-turn-requires : tie.Need-turn-requires Inv-loop μ-loop
-turn-requires c κs =
-    let w = c .before .before .before in
-    let l = w .loop .inv in
-    let g = l .3 .going in
-    let h = more (c .before .before) in
-    (l .0, (l .2, (g .good, (turn-fits g h, (omega (arith, h, g .waits), (kept g, (l .1, (l .5, (l .6, omega (arith, l .4, h, g .waits, g .good .waiting .few))))))))))
+waitings-at-requires : tie.Need-waitings-at-requires Inv μ
+waitings-at-requires c κs = search needs
 
-after-turn-requires : tie.Need-after-turn-requires Inv-loop μ-loop
-after-turn-requires c κs =
-    let w = c .before .before .before .before .before .before .before .before .before in
-    let l = w .loop .inv in
-    let g = l .3 .going in
-    let t = c .before .before .before .before .before .turn in
-    let r = decode (t .last .0) in
-    let h = more (c .before .before .before .before .before .before .before .before) in
-    let e = t .ensures .1 in (
-      search needs,
-      (
-        run-turn (l .3) h e .going .good,
-        (
-          (λ q. l .5 ∙ ap (sumOf addOf) (sym (turn-keeps (l .3) h r (t .last .1 .0) (t .result) e q))),
-          (
-            (λ q. l .6 ∙ ap methodsOf (sym (turn-keeps (l .3) h r (t .last .1 .0) (t .result) e q))),
-            (
-              (λ q. turn-grows (l .3) h r (t .last .1 .0) (t .result) e q (l .5) (l .6)),
-              omega (arith, l .4, h, g .waits, g .good .waiting .few),
-            ),
-          ),
-        ),
-      ),
-    )
+cast-n : tie.Need-cast-n Inv μ
+cast-n c = search needs
 
-add-i : tie.Need-add-i Inv-loop μ-loop
-add-i c = search needs
-
-loop-less : tie.Need-loop-less Inv-loop μ-loop
-loop-less c = search needs
-
-loop-again : tie.Need-loop-again Inv-loop μ-loop
-loop-again c =
-    let w = c .before .before .before .before .before .before .before .before .before .before in
-    let l = w .loop .inv in
-    let e = c .before .before .before .before .before .before .turn .ensures in
-    let t = c .after-turn .ensures in
-    let h = more (c .before .before .before .before .before .before .before .before .before) in
-    (search needs, search needs, e .0, run-turn (l .3) h (e .1), omega (arith, l .4, t .1 .1), t .0, t .1 .0)
-
-close-requires : tie.Need-close-requires Inv-loop μ-loop
-close-requires c κs =
-    let l = c .before .before .loop .inv in
-    let g = l .3 .going in
-    let k = count (c .before .before .before) in
-    (l .0, (l .2, (g .good, (omega (arith, kept g, g .looked, k), k ∙ sym (g .waits)))))
-
-same-length : tie.Need-same-length Inv-loop μ-loop
+same-length : tie.Need-same-length Inv μ
 same-length c = search needs
 
-same-length-2 : tie.Need-same-length-2 Inv-loop μ-loop
+-- ---- nothing waits
+
+returns : tie.Need-returns Inv μ
+returns c =
+    let w = c .before in
+    let k = at-count w in
+    let s = k .args .s .now in
+    let h = k .pre .0 in
+    let none : disk k .waitings ≡ 0 = sym (count w) ∙ c .if1 .taken in (
+      sym (part-held s (λ i. w .before .before .before .slice-known .given i .fits) (h .disk .long) (sound-part s (h .disk .whole) (h .sound)))
+          ∙ ap partFor (idle-disk (disk k) none),
+      idle-behind (disk k) none (k .args .answer .now),
+    )
+
+-- ---- the walk
+
+totals-at-requires : tie.Need-totals-at-requires Inv μ
+totals-at-requires c κs = search needs
+
+loop-holds : tie.Need-loop-holds Inv μ
+loop-holds c =
+    let k = at-count (counted c) in
+    let h = k .pre .0 in
+    (k .pre .1 .0, h .disk, run-start (disk k) (k .args .answer .now) (disk-good (h .disk)) (h .sound), c .totals-at .ensures)
+
+turn-requires : tie.Need-turn-requires Inv μ
+turn-requires c κs =
+    let t = c .before .before in
+    let l = t .before .loop .inv in
+    let g = l .2 .going in
+    let h = more t in
+    (l .1, (turn-fits g h, (omega (arith, h, g .waits), (kept g, (l .0, l .3)))))
+
+after-turn-requires : tie.Need-after-turn-requires Inv μ
+after-turn-requires c κs =
+    let v = c .before .before .before .before .before in
+    let t = v .before .before .before in
+    let l = t .before .loop .inv in
+    let e = v .turn in
+    (e .ensures .0, (λ q. l .3 ∙ ap totalsOf (sym (turn-keeps (l .2) (more t) (decode (e .last .0)) (e .last .1 .0) (e .result) (e .ensures .1) q))))
+
+add-i : tie.Need-add-i Inv μ
+add-i c = search needs
+
+loop-less : tie.Need-loop-less Inv μ
+loop-less c = search needs
+
+loop-again : tie.Need-loop-again Inv μ
+loop-again c =
+    let v = c .before .before .before .before .before .before in
+    let t = v .before .before .before in
+    (search needs, v .turn .ensures .0, run-turn (t .before .loop .inv .2) (more t) (v .turn .ensures .1), c .after-turn .ensures)
+
+close-requires : tie.Need-close-requires Inv μ
+close-requires c κs =
+    let w = c .before .before in
+    let l = w .loop .inv in
+    let g = l .2 .going in
+    let n = count (counted (w .before)) in
+    (l .1, (omega (arith, kept g, g .looked, n), n ∙ sym (g .waits)))
+
+same-length-2 : tie.Need-same-length-2 Inv μ
 same-length-2 c = search needs
 
-returns : tie.Need-returns Inv-loop μ-loop
-returns c =
-    let w = c .before .before .before .before .before in
+same-length-3 : tie.Need-same-length-3 Inv μ
+same-length-3 c = search needs
+
+returns-2 : tie.Need-returns-2 Inv μ
+returns-2 c =
+    let e = c .before .before .before .before in
+    let w = e .before in
     let l = w .loop .inv in
-    let e = c .before .before .close .ensures in
-    let h = subst (λ (m : ℕ). m ≤ w .loop .i) (count (c .before .before .before .before .before .before)) (c .before .before .before .before .loop-test .left) in
-    (holds-part (e .0) (subst (DiskIs _) (run-disk (l .3) h) (e .1)), run-behind (l .3) h)
+    let h = subst (λ (m : ℕ). m ≤ w .loop .i) (count (counted (w .before))) (e .loop-test .left) in
+    (c .before .before .close .ensures ∙ ap partFor (run-disk (l .2) h), run-behind (l .2) h)
 
 pub pass-spec : {M : Type 1} → statement M
 pass-spec =
     tie.close
     (tie.spec
-    Inv-loop
-    μ-loop
-    word-at-requires
+    Inv
+    μ
+    waitings-at-requires
     cast-n
+    same-length
+    returns
+    totals-at-requires
     loop-holds
     turn-requires
     after-turn-requires
@@ -151,6 +151,6 @@ pass-spec =
     loop-less
     loop-again
     close-requires
-    same-length
     same-length-2
-    returns)
+    same-length-3
+    returns-2)

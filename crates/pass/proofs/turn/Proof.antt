@@ -1,12 +1,12 @@
 -- The decision says which turn it is: a grant, with its item behind the others, or a place among those that wait.
-use Prim.Native.Nat.{_+_, _-_, _*_, _≤_, _<_}
+use Prim.Native.Nat.{ℕ, _+_, _-_, _*_, _≤_, _<_}
+use mathlib.Core.List.{List}
 use mathlib.Core.Bool.{Bool, true, false, _||_}
 use mathlib.Core.Path.{_≡_, refl, sym, ap, _∙_, subst}
 use native.Mathlib.Omega.{arith}
 use borrow.Author.Needs.{needs}
-use borrow.Author.Tests.{leb-true, not-true}
-use lib.Bits.{bitAnd}
-use lib.Dec.{leb, eqb}
+use borrow.Author.Tests.{leb-true}
+use lib.Dec.{leb}
 use lib.ListN.{length}
 use Rattle.num.specs.Runs.{splice}
 use Rattle.law.specs.declared.Claim.{Claim}
@@ -15,38 +15,66 @@ use Rattle.law.specs.Granting.{total, granted, grantItem}
 use Rattle.law.specs.GrantLaws.{MayGrant, grant-says}
 use Rattle.law.specs.DiskType.{diskTable}
 use Rattle.rules.specs.RowLaws.{row-length}
-use Rattle.rules.specs.Masks.{neverMask}
-use Rattle.rules.proofs.MaskLaws.{one-never}
+use Rattle.rules.specs.Pairs.{coreOf}
+use Rattle.rules.specs.Totals.{keepOut}
+use Rattle.rules.proofs.TotalsLaws.{one-never}
 use Rattle.judge.specs.Decisions.{activesIn, DecidedIs}
-use Rattle.judge.proofs.ReadLaws.{actives-read}
 use Rattle.judge.proofs.DecideLaws.{full-waits, never-waits}
 use Rattle.rules.specs.declared.disk.Disk.{Disk}
-use Rattle.rules.specs.Disks.{figuresIn, coreIn, diskOf, DiskIs, grantOf, ToldFits}
+use Rattle.rules.specs.Disks.{figuresIn, coreIn, diskOf, Good, DiskIs, grantOf, ToldFits}
 use Rattle.part.specs.Layout.{decode}
+use Rattle.part.specs.PartLaws.{disk-good}
 use Rattle.answer.specs.Answers.{itemBytes}
 use Rattle.pass.specs.Turns.{grantAnswer, tried, front, TurnBy}
 use Rattle.pass.proofs.PassLaws.{told-fits, total-most}
 use Rattle.pass.proofs.turn.Statement.{statement}
 use Rattle.pass.proofs.turn.Tie as tie
 
+-- ---- the stops: the method read, the claim tried undecided, and the decision
+
+abbrev at-read : tie.After-waiting-at → tie.Start
+at-read w = w .before .before .before .before
+
+abbrev read-1 : tie.After-either → tie.After-waiting-at
+read-1 e = e .before .before .before .before
+
+abbrev at-either : tie.After-either → tie.Start
+at-either e = at-read (read-1 e)
+
+abbrev at-claim : tie.After-waiting-at2 → tie.Start
+at-claim w = at-either (w .before .before .before)
+
+abbrev claim : tie.After-decide → tie.After-waiting-at2
+claim v = v .before .before .before
+
+abbrev at-decide : tie.After-decide → tie.Start
+at-decide v = at-claim (claim v)
+
 -- The disk of the part.
 abbrev disk : tie.Start → Disk
 disk k = decode (k .args .s .now)
 
+good : (k : tie.Start) → Good (disk k)
+good k = disk-good (k .pre .0)
+
 -- The place is one of the eight.
 place : (k : tie.Start) → k .args .i < 8
-place k = omega (arith, k .pre .1 .1 .1 .1 .0, k .pre .1 .1 .0 .waiting .few)
+place k = omega (arith, k .pre .1 .1 .0, good k .waiting .few)
+
+-- A decision by what has been read is one by the disk.
+by-read : (d : Disk) {ok : Bool} {sum now : ℕ} {ahead : List Claim} {c e : Claim} → now ≡ d .clock → c ≡ e →
+    DecidedIs ok sum (coreOf (figuresIn d) now (activesIn d)) ahead c → DecidedIs ok sum (coreIn d) ahead e
+by-read d n h v = rw (n, h) at v
 
 -- The decision on the claim that is tried.
-verdict : (v : tie.After-decide) → let k = v .before .before .before .before .before .before .before .before .before .before .before .before .before .before .before in
+verdict : (v : tie.After-decide) → let k = at-decide v in
     DecidedIs (v .decide .result .ok) (v .decide .result .total) (coreIn (disk k)) (front (disk k) (k .args .k)) (tried (disk k) (k .args .i))
-unfolding decode
-verdict v = rw (v .before .before .before .waiting-at2 .ensures, v .before .word-at2 .ensures) at (v .decide .ensures)
+verdict v = by-read (disk (at-decide v)) (v .before .clock-at .ensures) (claim v .waiting-at2 .ensures) (v .decide .ensures)
 
 -- It is granted.
 module _ (b : tie.Then2) where
   abbrev start : tie.Start
-  start = b .before .before .before .before .before .before .before .before .before .before .before .before .before .before .before .before
+  start = at-decide (b .before)
 
   abbrev d : Disk
   d = disk start
@@ -64,51 +92,40 @@ module _ (b : tie.Then2) where
   sum = verdict (b .before) .counts (b .if2 .taken)
 
   pub few : b .before .decide .result .total ≤ mostError
-  few = omega (arith, sum, total-most d (start .args .i) (start .pre .1 .1 .1 .0) may)
-
--- The i-th claim is what is read.
-read-is : (w : tie.After-waiting-at) → w .waiting-at .result ≡ tried (disk (w .before .before .before .before)) (w .before .before .before .before .args .i)
-read-is w = w .waiting-at .ensures
+  few = omega (arith, sum, total-most d (start .args .i) (start .pre .1 .0) may)
 
 waiting-at-requires : tie.Need-waiting-at-requires
 waiting-at-requires c κs = (search needs, place (c .before .before .before))
 
-word-at-requires : tie.Need-word-at-requires
-word-at-requires c κs = search needs
+actives-at-requires : tie.Need-actives-at-requires
+actives-at-requires c κs = search needs
 
-never-requires : tie.Need-never-requires
-never-requires c κs = tt
-
-share-requires : tie.Need-share-requires
-share-requires c κs = tt
+keep-out-requires : tie.Need-keep-out-requires
+keep-out-requires c κs = tt
 
 either-requires : tie.Need-either-requires
 either-requires c κs = tt
 
 keep-requires : tie.Need-keep-requires
-keep-requires c κs =
-    let k = c .before .before .before .before .before .before .before .before .before .before .before in
-    (k .pre .0, (k .pre .1 .0, (place k, k .pre .1 .1 .1 .1 .1 .0)))
+keep-requires c κs = let k = at-either (c .before .before) in (k .pre .0, (k .pre .1 .1 .0, k .pre .1 .1 .1 .0))
 
 -- With eight active, or one whose entry is N, it is not granted.
 stuck : (t : tie.Then1) →
-    let k = t .before .before .before .before .before .before .before .before .before .before in
+    let k = at-either (t .before) in
     granted diskTable (coreIn (disk k)) (front (disk k) (k .args .k)) (tried (disk k) (k .args .i)) ≡ false
 stuck t =
-    let w = t .before .before .before .before .before .before in
-    let k = w .before .before .before .before in
+    let e = t .before in
+    let k = at-either e in
     let d = disk k in
     let c = tried d (k .args .i) in
-    let count : t .before .before .before .before .word-at .result ≡ length (activesIn d) =
-    t .before .before .before .before .word-at .ensures ∙ actives-read (k .args .s .now) ∙ sym (row-length (k .pre .1 .1 .0 .active)) in
+    let n = e .before .before .actives-at in
+    let count : n .result ≡ length (activesIn d) = n .ensures ∙ sym (row-length (good k .active)) in
     sym
-    (either-way (leb 8 (t .before .before .before .before .word-at .result)) (t .before .before .share .result) (sym (t .before .either .ensures) ∙ t .if1 .taken)
-    (λ full. full-waits (figuresIn d) (d .clock) (activesIn d) (front d (k .args .k)) c (omega (arith, count, leb-true 8 (t .before .before .before .before .word-at .result) full)))
+    (either-way (leb 8 (n .result)) (e .before .keep-out .result) (sym (e .either .ensures) ∙ t .if1 .taken)
+    (λ full. full-waits (figuresIn d) (d .clock) (activesIn d) (front d (k .args .k)) c (omega (arith, count, leb-true 8 (n .result) full)))
     (λ met.
     never-waits (figuresIn d) (d .clock) (activesIn d) (front d (k .args .k)) c
-    (one-never c (activesIn d)
-    (sym (λ j. eqb (bitAnd (k .pre .1 .1 .1 .1 .1 .1 .1 .1 .0 j) ((t .before .before .before .never .ensures ∙ ap (λ (x : Claim). neverMask (x .method)) (read-is w)) j)) 0)
-    ∙ not-true (eqb (bitAnd (k .args .methods) (t .before .before .before .never .result)) 0) (sym (t .before .before .share .ensures) ∙ met)))))
+    (one-never c (activesIn d) (sym (e .before .keep-out .ensures ∙ (λ j. keepOut (k .pre .1 .1 .1 .1 .1 j) (read-1 e .waiting-at .ensures j .method))) ∙ met))))
   where
     either-way : {X : Type 0} (a b : Bool) → (a || b) ≡ true → (a ≡ true → X) → (b ≡ true → X) → X
     either-way true b h f g = f refl
@@ -119,28 +136,28 @@ same-length c = search needs
 
 returns : tie.Need-returns
 returns c =
-    let k = c .before .before .before .before .before .before .before .before .before .before .before .before .before .before in
+    let t = c .before .before .before .before in
+    let k = at-either (t .before) in
     let a = k .args in
-    let e = c .before .before .keep .ensures in (
-      e .1 .0,
-      subst (λ (v : Bool). TurnBy v (disk k) (decode (c .before .before .keep .last .0)) (a .answer .now) (a .answer .now) (a .i) (a .k) (c .before .before .keep .result))
-          (sym (stuck (c .before .before .before .before))) (e .0, e .1 .1, refl),
+    let e = c .before .before .keep in (
+      e .ensures .1 .0,
+      subst (λ (v : Bool). TurnBy v (disk k) (decode (e .last .0)) (a .answer .now) (a .answer .now) (a .i) (a .k) (e .result))
+          (sym (stuck t)) (e .ensures .0, e .ensures .1 .1, refl),
     )
 
 waiting-at-requires-2 : tie.Need-waiting-at-requires-2
-waiting-at-requires-2 c κs = (search needs, place (c .before .before .before .before .before .before .before .before .before .before .before))
+waiting-at-requires-2 c κs = (search needs, place (at-either (c .before .before)))
 
-word-at-requires-2 : tie.Need-word-at-requires-2
-word-at-requires-2 c κs = search needs
+clock-at-requires : tie.Need-clock-at-requires
+clock-at-requires c κs = search needs
 
 decide-requires : tie.Need-decide-requires
 decide-requires c κs =
-    let k = c .before .before .before .before .before .before .before .before .before .before .before .before .before .before in
-    let p = k .pre .1 .1 .1 .1 .1 .1 in
-    (k .pre .0, (k .pre .1 .1 .0, (omega (arith, k .pre .1 .1 .1 .1 .1 .0, place k), (p .1 .0, (p .1 .1 .0, p .1 .1 .1)))))
+    let k = at-claim (c .before .before) in
+    (k .pre .0, (omega (arith, k .pre .1 .1 .1 .0, place k), k .pre .1 .1 .1 .1 .1))
 
 sub-give : tie.Need-sub-give
-sub-give c = omega (arith, c .before .before .before .before .before .before .before .before .before .before .before .before .before .before .before .before .before .before .pre .1 .1 .1 .1 .1 .0)
+sub-give c = omega (arith, start (c .before .before) .pre .1 .1 .1 .0)
 
 cast-give : tie.Need-cast-give
 cast-give c = record { fits = omega (arith, few (c .before .before .before)) }
@@ -149,19 +166,13 @@ give-requires : tie.Need-give-requires
 give-requires c κs =
     let b = c .before .before .before in
     let k = start b in
-    let e = sym (c .before .before .before .before .before .before .before .waiting-at2 .ensures) in (
+    let e = sym (claim (b .before) .waiting-at2 .ensures) in (
       k .pre .0,
       (
-        k .pre .1 .0,
+        subst (MayGrant diskTable (coreIn (disk k))) e (may b),
         (
-          k .pre .1 .1 .0,
-          (
-            subst (MayGrant diskTable (coreIn (disk k))) e (may b),
-            (
-              subst (ToldFits (disk k)) e (told-fits (disk k) (k .args .i) (k .pre .1 .1 .1 .0)),
-              (sum b ∙ ap (total diskTable (coreIn (disk k))) e, (k .pre .1 .1 .1 .1 .1 .1 .0, omega (arith, place k))),
-            ),
-          ),
+          subst (ToldFits (disk k)) e (told-fits (disk k) (k .args .i) (k .pre .1 .0)),
+          (sum b ∙ ap (total diskTable (coreIn (disk k))) e, (k .pre .1 .1 .1 .1 .0, omega (arith, place k))),
         ),
       ),
     )
@@ -177,7 +188,7 @@ returns-2 c =
     let b = c .before .before .before .before .before .before .before .before in
     let k = start b in
     let a = k .args in
-    let e = c .before .before .before .before .before .before .before .before .before .before .before .before .waiting-at2 .ensures in
+    let e = claim (b .before) .waiting-at2 .ensures in
     let g = c .before .before .before .before .give in (
       g .ensures .0,
       subst (λ (v : Bool). TurnBy v (disk k) (decode (g .last .0)) (a .answer .now) (g .last .1 .0) (a .i) (a .k) (a .k)) (sym (yes b)) (
@@ -189,21 +200,20 @@ returns-2 c =
     )
 
 keep-requires-2 : tie.Need-keep-requires-2
-keep-requires-2 c κs =
-    let k = c .before .before .before .before .before .before .before .before .before .before .before .before .before .before .before .before .before in
-    (k .pre .0, (k .pre .1 .0, (place k, k .pre .1 .1 .1 .1 .1 .0)))
+keep-requires-2 c κs = let k = at-decide (c .before .before) in (k .pre .0, (k .pre .1 .1 .0, k .pre .1 .1 .1 .0))
 
 same-length-4 : tie.Need-same-length-4
 same-length-4 c = search needs
 
 returns-3 : tie.Need-returns-3
 returns-3 c =
-    let k = c .before .before .before .before .before .before .before .before .before .before .before .before .before .before .before .before .before .before .before .before in
+    let v = c .before .before .before .before .before in
+    let k = at-decide v in
     let a = k .args in
-    let e = c .before .before .keep2 .ensures in (
-      e .1 .0,
-      subst (λ (v : Bool). TurnBy v (disk k) (decode (c .before .before .keep2 .last .0)) (a .answer .now) (a .answer .now) (a .i) (a .k) (c .before .before .keep2 .result))
-          (sym (sym (verdict (c .before .before .before .before .before) .says) ∙ c .before .before .before .before .if2 .left)) (e .0, e .1 .1, refl),
+    let e = c .before .before .keep2 in (
+      e .ensures .1 .0,
+      subst (λ (v : Bool). TurnBy v (disk k) (decode (e .last .0)) (a .answer .now) (a .answer .now) (a .i) (a .k) (e .result))
+          (sym (sym (verdict v .says) ∙ c .before .before .before .before .if2 .left)) (e .ensures .0, e .ensures .1 .1, refl),
     )
 
 pub turn-spec : {M : Type 1} → statement M
@@ -211,15 +221,14 @@ turn-spec =
     tie.close
     (tie.spec
     waiting-at-requires
-    word-at-requires
-    never-requires
-    share-requires
+    actives-at-requires
+    keep-out-requires
     either-requires
     keep-requires
     same-length
     returns
     waiting-at-requires-2
-    word-at-requires-2
+    clock-at-requires
     decide-requires
     sub-give
     cast-give

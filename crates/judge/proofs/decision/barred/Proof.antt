@@ -15,6 +15,7 @@ use Rattle.rules.proofs.EntryLaws.{found-at}
 use Rattle.rules.specs.declared.disk.Disk.{Disk}
 use Rattle.rules.specs.Disks.{figuresIn}
 use Rattle.part.specs.Layout.{decode}
+use Rattle.part.specs.PartLaws.{disk-good}
 use Rattle.judge.specs.Decisions.{barsAt}
 use Rattle.judge.proofs.WalkLaws.{bars-at, first-any-on, first-any-here, first-any-end}
 use Rattle.judge.proofs.decision.barred.Statement.{statement}
@@ -61,7 +62,7 @@ abbrev figures : Read → Figures
 figures i = figuresOf (i .before .before .before .used-at .result) (i .before .before .promised-at .result) (i .before .state-at .result)
 
 room : (i : Read) → start i .args .ahead ≤ length (disk i .waiting)
-room i = omega (arith, start i .pre .1 .1 .0, start i .pre .1 .0 .waiting .room)
+room i = omega (arith, start i .pre .1 .0, disk-good (start i .pre .0) .waiting .room)
 
 -- The test that the walk makes of a waiting claim, and the same by the disk's figures.
 abbrev barring : Read → Claim → Bool
@@ -80,7 +81,7 @@ loop-holds : tie.Need-loop-holds Inv-loop μ-loop
 loop-holds c = refl
 
 waiting-at-requires : tie.Need-waiting-at-requires Inv-loop μ-loop
-waiting-at-requires c κs = (start (c .before .before) .pre .0, omega (arith, c .loop-test .taken, start (c .before .before) .pre .1 .1 .0))
+waiting-at-requires c κs = (start (c .before .before) .pre .0 .long, omega (arith, c .loop-test .taken, start (c .before .before) .pre .1 .0))
 
 index-of-requires-2 : tie.Need-index-of-requires-2 Inv-loop μ-loop
 index-of-requires-2 c κs = tt
@@ -103,7 +104,7 @@ entry-requires c κs =
     (k .index-of2 .result) (i .index-of .result) (k .index-of2 .ensures .0) (i .index-of .ensures .0)
 
 bars-requires : tie.Need-bars-requires Inv-loop μ-loop
-bars-requires c κs = omega (arith, start (c .before .before .before .before .before .before) .pre .1 .1 .1)
+bars-requires c κs = omega (arith, start (c .before .before .before .before .before .before) .pre .1 .1)
 
 bars-there : (b : tie.After-bars Inv-loop μ-loop) →
     let l = b .before .before .before .before .before .before in
@@ -129,7 +130,7 @@ returns-2 c =
 add-j : tie.Need-add-j Inv-loop μ-loop
 add-j c =
     let t = c .before .before .before .before .before .before in
-    record { fits = omega (arith, t .loop-test .taken, start (t .before .before) .pre .1 .1 .0) }
+    record { fits = omega (arith, t .loop-test .taken, start (t .before .before) .pre .1 .0) }
 
 loop-less : tie.Need-loop-less Inv-loop μ-loop
 loop-less c = search needs

@@ -1,13 +1,12 @@
--- Where the methods say that every entry is A, nothing is walked. Else the tests passed so far leave the answer to those left, and
+-- Where the masks say that every entry is A, nothing is walked. Else the tests passed so far leave the answer to those left, and
 -- the sum with the costs left is the whole. What is read is what the part's disk has.
 use borrow.Author.Needs.{needs}
-use borrow.Author.Tests.{eqb-true, not-true, not-false}
+use borrow.Author.Tests.{not-true}
 use Prim.Native.Nat.{ℕ, _+_, _*_, _-_, _≤_}
+use mathlib.Core.Bool.{false}
 use mathlib.Core.List.{List}
 use mathlib.Core.Path.{_≡_, refl, sym, ap, _∙_}
 use native.Mathlib.Omega.{arith}
-use lib.Bits.{bitAnd}
-use lib.Dec.{eqb}
 use lib.ListN.{take, drop, getD}
 use Rattle.law.specs.declared.Claim.{Claim}
 use Rattle.law.specs.Base.{everyOf, sumOf}
@@ -16,20 +15,21 @@ use Rattle.law.specs.DiskType.{diskEntries}
 use Rattle.law.specs.Types.{Figures}
 use Rattle.rules.specs.Rows.{Row, noClaim}
 use Rattle.rules.specs.RowLaws.{sum-turn, sum-end, every-on, every-not, every-end}
-use Rattle.rules.specs.Masks.{methodsOf, otherMask}
+use Rattle.rules.specs.declared.totals.Totals.{Totals}
+use Rattle.rules.specs.Totals.{totalsOf, haveSay}
 use Rattle.rules.specs.Methods.{figuresOf}
 use Rattle.rules.proofs.EntryLaws.{found-at}
 use Rattle.rules.specs.declared.disk.Disk.{Disk}
 use Rattle.rules.specs.Disks.{figuresIn}
 use Rattle.part.specs.Layout.{decode}
+use Rattle.part.specs.PartLaws.{active-row}
 use Rattle.judge.specs.Decisions.{letsOf, costOf, activesIn}
-use Rattle.judge.proofs.ReadLaws.{actives-read, same-row}
 use Rattle.judge.proofs.WalkLaws.{lets-at, cost-at, all-let, none-cost}
 use Rattle.judge.proofs.decision.lock_step.Statement.{statement}
 use Rattle.judge.proofs.decision.lock_step.Tie as tie
 
 abbrev Inv-loop : tie.InvT-loop
-Inv-loop s c methods table n used promised state m col reading raise sum₀ i₀ sum i =
+Inv-loop s c table n used promised state m col reading raise sum₀ i₀ sum i =
     (i ≤ n)
     × (sum ≤ i * 4294967295)
     × (everyOf (letsOf (figuresOf used promised state) c) (drop i (take n (decode s .active)))
@@ -38,29 +38,23 @@ Inv-loop s c methods table n used promised state m col reading raise sum₀ i₀
     ≡ sumOf (costOf (figuresOf used promised state) c) (take n (decode s .active)))
 
 abbrev μ-loop : tie.MeasureT-loop
-μ-loop s c methods table n used promised state m col reading raise sum₀ i₀ sum i = n - i
+μ-loop s c table n used promised state m col reading raise sum₀ i₀ sum i = n - i
 
-others-requires : tie.Need-others-requires Inv-loop μ-loop
-others-requires c κs = tt
-
-share-requires : tie.Need-share-requires Inv-loop μ-loop
-share-requires c κs = tt
+have-say-requires : tie.Need-have-say-requires Inv-loop μ-loop
+have-say-requires c κs = tt
 
 -- No active claim has a say.
 returns : tie.Need-returns Inv-loop μ-loop
 returns c =
-    let k = c .before .before .before .before in
+    let k = c .before .before .before in
     let d = decode (k .args .s .now) in
     let q = k .args .c in
-    let none : bitAnd (methodsOf (activesIn d)) (otherMask (q .method)) ≡ 0 =
-    eqb-true (bitAnd (methodsOf (activesIn d)) (otherMask (q .method))) 0
-    (sym (ap (λ (m : ℕ). eqb (bitAnd m (otherMask (q .method))) 0) (k .pre .1 .1))
-    ∙ ap (λ (m : ℕ). eqb (bitAnd (k .args .methods) m) 0) (sym (c .before .before .others .ensures))
-    ∙ not-false (eqb (bitAnd (k .args .methods) (c .before .before .others .result)) 0) (sym (c .before .share .ensures) ∙ not-true (c .before .share .result) (c .if1 .taken))) in
+    let none : haveSay (totalsOf (activesIn d)) (q .method) ≡ false =
+    sym (c .before .have-say .ensures ∙ ap (λ (t : Totals). haveSay t (q .method)) (k .pre .1)) ∙ not-true (c .before .have-say .result) (c .if1 .taken) in
     (all-let (figuresIn d) q (activesIn d) none, ((λ e. none-cost (figuresIn d) q (activesIn d) none), omega arith))
 
-word-at-requires : tie.Need-word-at-requires Inv-loop μ-loop
-word-at-requires c κs = search needs
+actives-at-requires : tie.Need-actives-at-requires Inv-loop μ-loop
+actives-at-requires c κs = search needs
 
 cast-n : tie.Need-cast-n Inv-loop μ-loop
 cast-n c = search needs
@@ -89,13 +83,13 @@ abbrev Read : Type 0
 Read = tie.After-raise-of Inv-loop μ-loop
 
 abbrev start : Read → tie.Start Inv-loop μ-loop
-start r = r .before .before .before .before .before .before .before .before .before .before .before
+start r = r .before .before .before .before .before .before .before .before .before .before
 
 abbrev disk : Read → Disk
 disk r = decode (start r .args .s .now)
 
 abbrev count : Read → ℕ
-count r = r .before .before .before .before .before .before .word-at .result
+count r = r .before .before .before .before .before .before .actives-at .result
 
 abbrev figures : Read → Figures
 figures r = figuresOf (r .before .before .before .before .before .used-at .result) (r .before .before .before .before .promised-at .result) (r .before .before .before .state-at .result)
@@ -104,10 +98,10 @@ abbrev actives : Read → List Claim
 actives r = take (count r) (disk r .active)
 
 count-is : (r : Read) → count r ≡ disk r .actives
-count-is r = r .before .before .before .before .before .before .word-at .ensures ∙ actives-read (start r .args .s .now)
+count-is r = r .before .before .before .before .before .before .actives-at .ensures
 
 row : (r : Read) → Row (disk r .active) (count r)
-row r = same-row (count-is r) (start r .pre .1 .0 .active)
+row r = active-row (start r .pre .0) (count-is r)
 
 -- A test and a sum by what has been read are those by the disk.
 by-disk : {X : Type 0} (r : Read) (f : Figures → List Claim → X) → f (figures r) (actives r) ≡ f (figuresIn (disk r)) (activesIn (disk r))
@@ -119,7 +113,7 @@ loop-holds : tie.Need-loop-holds Inv-loop μ-loop
 loop-holds c = (omega arith, omega arith, refl, omega arith)
 
 active-at-requires : tie.Need-active-at-requires Inv-loop μ-loop
-active-at-requires c κs = (start (c .before .before) .pre .0, omega (arith, c .loop-test .taken, row (c .before .before) .few))
+active-at-requires c κs = (start (c .before .before) .pre .0 .long, omega (arith, c .loop-test .taken, row (c .before .before) .few))
 
 index-of-requires-2 : tie.Need-index-of-requires-2 Inv-loop μ-loop
 index-of-requires-2 c κs = tt
@@ -225,10 +219,9 @@ lock-step-spec =
     (tie.spec
     Inv-loop
     μ-loop
-    others-requires
-    share-requires
+    have-say-requires
     returns
-    word-at-requires
+    actives-at-requires
     cast-n
     used-at-requires
     promised-at-requires
