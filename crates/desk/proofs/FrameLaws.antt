@@ -1,22 +1,18 @@
 -- Laws of the frame: a lent part that comes back, an open, and the tests before them.
 use Prim.Native.Nat.{ℕ, _+_, _*_, _-_, _≤_, _<_}
-use mathlib.Core.Bool.{Bool, true, false, cond, not}
-use mathlib.Core.List.{List, [], _∷_, _++_}
-use mathlib.Core.Path.{_≡_, refl, sym, ap, _∙_}
+use mathlib.Core.Bool.{true, false}
+use mathlib.Core.List.{List, [], _++_}
+use mathlib.Core.Path.{_≡_, ap}
 use native.Mathlib.Omega.{arith}
 use borrow.Author.Tests.{eqb-true, eq-eqb, ne-eqb, le-leb, lt-leb}
 use borrow.Rule.Slice.PartMut.{putMid, post-is}
-use lib.Dec.{leb, eqb}
+use lib.Dec.{eqb}
 use lib.ListN.{length, take}
 use Rattle.num.specs.Opened.{openAt, setOpen}
-use Rattle.law.specs.Base.{allTrue}
 use Rattle.law.specs.Lists.{and-left}
-use Rattle.law.specs.Types.{mostError, Outcome, refused, accepted}
-use Rattle.law.specs.Calls.{item, opened, openDisk}
-use Rattle.rules.specs.Disks.{DiskIs}
-use Rattle.rules.specs.declared.disk.Disk.{Disk}
-use Rattle.rules.specs.Answers.{Answers}
-use Rattle.rules.specs.DiskLaws.{by-value}
+use Rattle.law.specs.Calls.{opened, limitsFit, openDisk}
+use Rattle.rules.specs.Disks.{byValue}
+use Rattle.rules.specs.Answers.{answerOf}
 use Rattle.part.specs.Layout.{encode}
 use Rattle.answer.specs.declared.Answer.the-variants as A
 use Rattle.answer.specs.declared.Refusal.{Refusal}
@@ -25,7 +21,7 @@ use Rattle.answer.specs.Answers.{numberOf, refusalOf, answerBytes}
 use Rattle.desk.specs.Record.{kindByte, diskNumber, nowOf, callOf, usedLimit, promisedLimit, wellFormed}
 use Rattle.desk.specs.Board.{disks, partOf, withPart}
 use Rattle.part.specs.Held.{partFor}
-use Rattle.desk.specs.Step.{answerOf, refusing, serveOf, opening, onDisk, onBoard, effectOf, stepOf, Stepped, stepped, written}
+use Rattle.desk.specs.Step.{refusing, serveOf, opening, onDisk, onBoard, effectOf, stepOf, Stepped, stepped, written}
 
 -- ---- a lent part
 
@@ -43,30 +39,16 @@ step-refusing b r h k = λ i. stepped (h i) b (k i)
 
 -- ---- an open
 
-module _ (b : List ℕ) (d : ℕ) where
-  pub open-refused : {o : Outcome} (m : ℕ) {n : ℕ} {a : List ℕ} → o ≡ refused m → n ≡ numberOf (refusalOf m) →
-      a ≡ answerBytes (A.Refused (refusalOf m)) [] → stepped n b a ≡ written (opening b d o)
-  open-refused m e h k = (λ i. stepped (h i) b (k i)) ∙ ap (λ (o : Outcome). written (opening b d o)) (sym e)
+module _ (b : List ℕ) (d now l0 l1 : ℕ) where
+  pub open-refused : limitsFit l0 l1 ≡ false → {s : Stepped} → s ≡ written (refusing b R.Field) →
+      s ≡ written (opening b d (openDisk now l0 l1))
+  unfolding openDisk refusalOf
+  open-refused e h = rw e h
 
-  module _ (now l0 l1 : ℕ) {number : ℕ} (e : Disk) (h : Answers number e (openDisk now l0 l1)) (z : number ≡ 0) where
-    opens : (openDisk now l0 l1 ≡ accepted (opened now l0 l1) (item 3 0 ∷ [])) × DiskIs e (opened now l0 l1)
-    unfolding openDisk
-    opens = go (not (allTrue (leb l0 mostError ∷ leb l1 mostError ∷ []))) h
-      where
-        outcome : Bool → Outcome
-        outcome v = cond v (refused 17) (accepted (opened now l0 l1) (item 3 0 ∷ []))
-
-        go : (v : Bool) → Answers number e (outcome v) →
-            (outcome v ≡ accepted (opened now l0 l1) (item 3 0 ∷ [])) × DiskIs e (opened now l0 l1)
-        go true h = absurd (omega (arith, h .0, z))
-        go false h = (refl, h .1)
-
-    pub open-accepted : {c a : List ℕ} → c ≡ setOpen (withPart b d (encode e)) d → a ≡ answerBytes A.Opened [] →
-        stepped 3 c a ≡ written (opening b d (openDisk now l0 l1))
-    unfolding partFor answerOf
-    open-accepted k f =
-        (λ i. stepped 3 ((k ∙ ap (λ (p : List ℕ). setOpen (withPart b d p) d) (ap encode (by-value (opens .1)))) i) (f i))
-        ∙ ap (λ (o : Outcome). written (opening b d o)) (sym (opens .0))
+  pub open-accepted : limitsFit l0 l1 ≡ true → {c a : List ℕ} → c ≡ setOpen (withPart b d (encode (byValue (opened now l0 l1)))) d →
+      a ≡ answerBytes A.Opened [] → stepped 3 c a ≡ written (opening b d (openDisk now l0 l1))
+  unfolding openDisk partFor answerOf
+  open-accepted e h k = rw e (λ i. stepped 3 (h i) (k i))
 
 -- ---- a well-formed record
 

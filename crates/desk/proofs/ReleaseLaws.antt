@@ -7,12 +7,12 @@ use native.Mathlib.Omega.{arith}
 use lib.ListN.{length, getD}
 use borrow.Author.Tests.{lt-ltb, le-ltb, ne-eqb}
 use Rattle.law.specs.declared.Claim.{Claim}
-use Rattle.law.specs.Base.{anyOf, All}
-use Rattle.law.specs.Lists.{all-say, all-left, never-true, none-tests, pairs-cross, all-at}
+use Rattle.law.specs.Base.{anyOf}
+use Rattle.law.specs.Lists.{never-true, none-tests, pairs-cross, all-at}
 use Rattle.law.specs.Types.{Figures, Disk as LawDisk, refused}
 use Rattle.law.specs.Entries.{kindOf}
 use Rattle.law.specs.Calls.{hasTicket, without, landBy, landed, finish, at, release}
-use Rattle.law.specs.Sound.{Passes, Sound}
+use Rattle.law.specs.Sound.{Sound}
 use Rattle.law.specs.SoundKept.{sound-finish}
 use Rattle.law.specs.TicketLaws.{Apart}
 use Rattle.law.specs.ProperLaws.{disk-proper}
@@ -20,7 +20,6 @@ use Rattle.law.specs.DiskType.{diskTable}
 use Rattle.rules.specs.Rows.{noClaim, placeOf, removeAt}
 use Rattle.rules.specs.PlaceLaws.{any-first, place-ticket, without-place}
 use Rattle.rules.specs.Answers.{endedAt, leftAt}
-use Rattle.judge.specs.Decisions.{HasMethod}
 use Rattle.pass.specs.Turns.{passedOf}
 use Rattle.desk.specs.Step.{released}
 
@@ -137,21 +136,3 @@ module _ (d : LawDisk) (now n : ℕ) where
             any-first (hasTicket n) (d .waiting),
             le-ltb (placeOf n (d .waiting)) (length (d .waiting)) h,
           )
-
--- ---- what the active claims come to
-
--- Those of a sound disk have methods that there are.
-pub methods-there : (d : LawDisk) → Sound diskTable d → All HasMethod (d .core .active)
-unfolding diskTable
-methods-there d s =
-    let Fits : Claim → Type 0 = Passes diskTable (d .core .figures) (d .core .clock) in
-    all-say Fits HasMethod (λ c p. p .method) (d .core .active) (all-left Fits (d .core .active) (d .waiting) (s .allPass))
-
--- The end of an active claim takes it out; that of a waiting one leaves them.
-pub actives-ended : (d : LawDisk) (now i : ℕ) → endedAt d now i .core .active ≡ removeAt i (d .core .active)
-unfolding endedAt
-actives-ended d now i = refl
-
-pub actives-left : (d : LawDisk) (now i : ℕ) → leftAt d now i .core .active ≡ d .core .active
-unfolding leftAt
-actives-left d now i = refl

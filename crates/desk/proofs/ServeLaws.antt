@@ -9,7 +9,7 @@ use Rattle.num.specs.Word.{wordAt}
 use Rattle.law.specs.declared.Claim.{Claim}
 use Rattle.law.specs.Base.{All}
 use Rattle.law.specs.Lists.{all-append}
-use Rattle.law.specs.Types.{Asked as LawAsked, Core, Disk as LawDisk, Item as LawItem, Outcome, refused, accepted}
+use Rattle.law.specs.Types.{claimOf, Asked as LawAsked, Core, Disk as LawDisk, Item as LawItem, Outcome, refused, accepted}
 use Rattle.law.specs.Granting.{grantItem}
 use Rattle.law.specs.Calls.{pass, claim, release}
 use Rattle.law.specs.History.{Call}
@@ -18,9 +18,9 @@ use Rattle.law.specs.Events.{pass-keeps}
 use Rattle.law.specs.DiskType.{diskTable}
 use Rattle.rules.specs.declared.disk.Disk.{Disk}
 use Rattle.rules.specs.Disks.{diskOf}
-use Rattle.rules.specs.Answers.{Answers}
+use Rattle.rules.specs.Answers.{answerOf, answerBy, NewOn, requestOf}
 use Rattle.part.specs.Layout.{decode, decodes}
-use Rattle.part.specs.Held.{held, partFor, soundPart}
+use Rattle.part.specs.Held.{held, partFor, soundPart, HoldsSound}
 use Rattle.part.specs.PartLaws.{held-part, part-sound, sound-decodes, length-part-for}
 use Rattle.answer.specs.declared.Answer.{Answer}
 use Rattle.answer.specs.declared.Answer.the-variants as A
@@ -28,7 +28,7 @@ use Rattle.answer.specs.declared.Refusal.the-variants as R
 use Rattle.answer.specs.Answers.{numberOf, refusalOf, codeOf, answerBytes}
 use Rattle.pass.specs.Turns.{grantAnswer}
 use Rattle.desk.specs.Record.{kindByte, nowOf, askedIn, callOf}
-use Rattle.desk.specs.Step.{answerOf, settled, released, serveOf, stepped, written}
+use Rattle.desk.specs.Step.{settled, released, serveOf, stepped, written}
 
 -- ---- outcomes
 
@@ -41,10 +41,30 @@ pub step-accepted : (p : List ℕ) {o : Outcome} (d : LawDisk) (i : LawItem) (it
     stepped n q a ≡ written (settled p o)
 step-accepted p d i items e h k l = (λ j. stepped (h j) (k j) (l j)) ∙ ap (λ (o : Outcome). written (settled p o)) (sym e)
 
--- A number that is not 0 is the refusal's.
-pub answers-refused : (n : ℕ) (e : Disk) (o : Outcome) → Answers n e o → (n ≡ 0 → ⊥) → o ≡ refused n
-answers-refused n e (refused m) h z = ap refused (sym (h .0))
-answers-refused n e (accepted f items) h z = absurd (z (h .0))
+-- The answer of a claim stands alone, with no grants behind it.
+module _ (p : List ℕ) {a : Answer} (o : Outcome) (is : a ≡ answerBy o) {n : ℕ} {q b : List ℕ} (code : n ≡ codeOf a) (shows : b ≡ answerBytes a []) where
+  alone : stepped n q b ≡ stepped (codeOf (answerBy o)) q (answerBytes (answerBy o) [])
+  alone = (λ i. stepped (code i) q (shows i)) ∙ ap (λ (x : Answer). stepped (codeOf x) q (answerBytes x [])) is
+
+  pub claim-refused : (m : ℕ) → o ≡ refused m → q ≡ p → stepped n q b ≡ written (settled p o)
+  claim-refused m e k = alone ∙ rw (e, k)
+
+  pub claim-accepted : (d : LawDisk) (i : LawItem) → o ≡ accepted d (i ∷ []) → q ≡ partFor d → stepped n q b ≡ written (settled p o)
+  claim-accepted d i e k = alone ∙ rw (e, k)
+
+-- The claim that a record asks for, with the disk's next ticket, is new, and its request is the record's.
+module _ (r : List ℕ) {c : Claim} {t : ℕ} (is : c ≡ claimOf (askedIn r) t) where
+  pub asked-new : (d : LawDisk) → t ≡ d .next → NewOn d c
+  asked-new d e =
+      record {
+        ticket = ap (λ (x : Claim). x .ticket) is ∙ e;
+        told = ap (λ (x : Claim). x .told) is;
+        amount = ap (λ (x : Claim). x .amount) is;
+      }
+
+  pub asked-request : {now : ℕ} → now ≡ nowOf r → requestOf now c ≡ askedIn r
+  unfolding askedIn
+  asked-request e = λ i. requestOf (e i) (is i)
 
 -- ---- the grants of a pass
 
@@ -72,17 +92,19 @@ pass-answers s ws =
 
 -- The part of a sound disk decodes, and holds it.
 module _ {p : List ℕ} (e : LawDisk) (s : Sound diskTable e) (t : e .core .clock < 2 ^ 32) (is : p ≡ partFor e) where
-  pub made-decodes : decodes p ≡ true
-  made-decodes = rw is (sound-decodes (partFor e) (part-sound e s t))
-
-  pub made-long : length p ≡ 768
-  made-long = ap length is ∙ length-part-for e (s .fewActive) (s .fewWaiting)
-
-  pub made-held : held p ≡ e
+  made-held : held p ≡ e
   made-held = ap held is ∙ held-part e s t
 
-  pub made-sound : Sound diskTable (held p)
-  made-sound = rw made-held s
+  pub made : HoldsSound p
+  made =
+      record {
+        disk =
+            record {
+              long = ap length is ∙ length-part-for e (s .fewActive) (s .fewWaiting);
+              whole = rw is (sound-decodes (partFor e) (part-sound e s t));
+            };
+        sound = rw made-held s;
+      }
 
   -- The pass over it is that of the release.
   pub settle-as : (q : List ℕ) (ticket : ℕ) {o : Outcome} {n : ℕ} {r a : List ℕ} → o ≡ released e ticket →

@@ -10,6 +10,7 @@ use Rattle.law.specs.Types.{Disk as LawDisk, Item, Outcome, refused, accepted}
 use Rattle.law.specs.Calls.{item, pass, openDisk}
 use Rattle.law.specs.History.{Call, answered}
 use Rattle.law.specs.DiskType.{diskTable}
+use Rattle.rules.specs.Answers.{answerOf}
 use Rattle.part.specs.Held.{held, partFor, soundPart}
 use Rattle.answer.specs.declared.Answer.{Answer}
 use Rattle.answer.specs.declared.Answer.the-variants as A
@@ -21,12 +22,6 @@ use Rattle.desk.specs.Record.{wellFormed, kindByte, diskNumber, nowOf, c
 use Rattle.desk.specs.Board.{disks, boardBytes, partOf, withPart}
 
 -- ---- answers
-
--- The answer of an item of the law, by its code.
-unfoldable pub answerOf : Item → Answer
-answerOf i =
-    cond (eqb (i .code) 0) (A.Granted (i .ticket) (i .told) (i .amount))
-    (cond (eqb (i .code) 1) (A.Waits (i .ticket)) (cond (eqb (i .code) 2) (A.Released (i .ticket)) A.Opened))
 
 -- What a call says: a refusal, or the items of the law, the call's own first, then the grants of its pass in order.
 pub data Said : Type 0 where

@@ -12,6 +12,7 @@ use Rattle.law.specs.Types.{Item}
 use Rattle.law.specs.Calls.{openDisk}
 use Rattle.law.specs.History.{Call, claims, releases, answered}
 use Rattle.law.specs.DiskType.{diskTable}
+use Rattle.rules.specs.Answers.{answerOf}
 use Rattle.part.specs.Held.{held, soundPart}
 use Rattle.answer.specs.declared.Answer.{Answer}
 use Rattle.answer.specs.declared.Answer.the-variants as A
@@ -19,7 +20,7 @@ use Rattle.answer.specs.declared.Refusal.{Refusal}
 use Rattle.answer.specs.declared.Refusal.the-variants as R
 use Rattle.desk.specs.Record.{wellFormed, kindByte, diskNumber, nowOf, askedIn, callOf, usedLimit, promisedLimit}
 use Rattle.desk.specs.Board.{disks, partOf}
-use Rattle.desk.specs.Step.{answerOf, Effect, refusing, settled, serveOf, onPart, opening, onBoard, effectOf}
+use Rattle.desk.specs.Step.{Effect, refusing, settled, serveOf, onPart, opening, onBoard, effectOf}
 
 -- The answer of an item.
 pub by-answer : (P : Answer → Type 0) (i : Item) → P (A.Granted (i .ticket) (i .told) (i .amount)) → P (A.Waits (i .ticket)) →

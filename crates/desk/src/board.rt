@@ -11,31 +11,36 @@ ghost use Rattle.desk.specs.Board.{withPart};
 ghost use Rattle.desk.specs.Record.{nowOf, usedLimit, promisedLimit};
 ghost use Rattle.desk.specs.Step.{opening, onBoard, stepOf, stepped, written};
 ghost use Rattle.desk.specs.Counts.{countOf};
+use crate::record::DISK_AT;
+use crate::record::KIND_AT;
+use crate::record::NOW_AT;
+use crate::record::OPEN;
+use crate::record::PROMISED_LIMIT_AT;
+use crate::record::USED_LIMIT_AT;
 use crate::record::well_formed;
 use crate::serve::refuse;
 use crate::serve::serve;
+use answer::ANSWER_BYTES;
 use answer::Answer;
 use answer::Refusal;
 use answer::number;
 use answer::put_answer;
-use answer::refusal_of;
 use num::opened::is_open;
 use num::opened::open_count;
 use num::opened::set_open;
 use num::word::word_at;
+use part::layout::PART_BYTES;
 use part::write::put_disk;
-use rules::calls::open;
 use rules::disk::Disk;
+use rules::disk::opened;
+use rules::fields::limits_fit;
 
+// A head, and behind it a part for each disk.
 const HEAD_BYTES: usize = 64;
 
 const DISKS: usize = 64;
 
-const PART_BYTES: usize = 768;
-
-const BOARD_BYTES: usize = 49216;
-
-const ANSWER_BYTES: usize = 144;
+pub const BOARD_BYTES: usize = 49216;
 
 // One call: any bytes may be lent. The code, and what board and answer hold at the end.
 pub fn step(board: &mut [u8], r: &[u8], answer: &mut [u8]) -> u32
@@ -60,12 +65,12 @@ fn on_board(board: &mut [u8], r: &[u8], answer: &mut [u8]) -> u32
     requires { ⌜ length (now answer) ≡ 144 ⌝ }
     ensures { λ n. ⌜ stepped n (now (board .exit)) (now (answer .exit)) ≡ written (onBoard (now (board .entry)) (now (r .entry))) ⌝ }
 {
-    let d = r[3] as usize;
+    let d = r[DISK_AT] as usize;
     if DISKS <= d {
         return refuse(answer, Refusal::Disk);
     }
     let opened = is_open(board, d);
-    if r[2] == 1 {
+    if r[KIND_AT] == OPEN {
         if opened {
             return refuse(answer, Refusal::Open);
         }
@@ -87,12 +92,12 @@ fn open_on(board: &mut [u8], d: usize, r: &[u8], answer: &mut [u8]) -> u32
     requires { ⌜ d < 64 ⌝ }
     ensures { λ n. ⌜ stepped n (now (board .exit)) (now (answer .exit)) ≡ written (opening (now (board .entry)) d (openDisk (nowOf (now (r .entry))) (usedLimit (now (r .entry))) (promisedLimit (now (r .entry))))) ⌝ }
 {
-    let o = open(word_at(r, 8), word_at(r, 16), word_at(r, 20));
-    if o.refusal != 0 {
-        return refuse(answer, refusal_of(o.refusal));
+    let l0 = word_at(r, USED_LIMIT_AT);
+    let l1 = word_at(r, PROMISED_LIMIT_AT);
+    if !limits_fit(l0, l1) {
+        return refuse(answer, Refusal::Field);
     }
-    let disk = o.disk;
-    put_open(board, d, disk);
+    put_open(board, d, opened(word_at(r, NOW_AT), l0, l1));
     put_answer(answer, Answer::Opened);
     3
 }

@@ -2,18 +2,55 @@
 
 ghost use mathlib.Core.Path.{_≡_};
 ghost use lib.ListN.{length};
-ghost use Rattle.rules.specs.Answers.{askedOf};
+ghost use Rattle.law.specs.Types.{claimOf};
 ghost use Rattle.desk.specs.Record.{wellFormed, kindFits, askedIn};
+use law::Claim;
+use law::limits::MOST_FLAG;
 use num::signed::signed_at;
 use num::truth::both;
 use num::word::word_at;
 use part::whole::zero_between;
-use rules::disk::Asked;
 
 const RECORD_BYTES: usize = 24;
 
-// A fresh flag is 0 to this.
-const MOST_FLAG: u8 = 1;
+// The places of a record. From 12 on they differ by kind: a claim has a second of measuring, a value and an error, an open the limits
+// of used and promised, a release its ticket.
+const MARK: u8 = 0x52;
+
+const MARK_TOO: u8 = 0x42;
+
+pub const KIND_AT: usize = 2;
+
+pub const DISK_AT: usize = 3;
+
+const METHOD_AT: usize = 4;
+
+const PRIORITY_AT: usize = 5;
+
+const FLAG_AT: usize = 6;
+
+const ZERO_AT: usize = 7;
+
+pub const NOW_AT: usize = 8;
+
+const MEASURED_AT: usize = 12;
+
+pub const TICKET_AT: usize = 12;
+
+const VALUE_AT: usize = 16;
+
+pub const USED_LIMIT_AT: usize = 16;
+
+const ERROR_AT: usize = 20;
+
+pub const PROMISED_LIMIT_AT: usize = 20;
+
+// The kinds.
+pub const OPEN: u8 = 1;
+
+pub const CLAIM: u8 = 2;
+
+const RELEASE: u8 = 3;
 
 // Whether a record is well formed: no refusal 10.
 pub fn well_formed(r: &[u8]) -> bool
@@ -22,19 +59,19 @@ pub fn well_formed(r: &[u8]) -> bool
     if r.len() != RECORD_BYTES {
         return false;
     }
-    if r[0] != 0x52 {
+    if r[0] != MARK {
         return false;
     }
-    if r[1] != 0x42 {
+    if r[1] != MARK_TOO {
         return false;
     }
-    if r[7] != 0 {
+    if r[ZERO_AT] != 0 {
         return false;
     }
-    if MOST_FLAG < r[6] {
+    if MOST_FLAG < r[FLAG_AT] as u32 {
         return false;
     }
-    kind_fits(r, r[2])
+    kind_fits(r, r[KIND_AT])
 }
 
 // Whether the kind is known, and the bytes that it does not use are zero.
@@ -42,30 +79,38 @@ fn kind_fits(r: &[u8], kind: u8) -> bool
     requires { ⌜ length (now r) ≡ 24 ⌝ }
     ensures { λ ok. ⌜ ok ≡ kindFits (now (r .entry)) kind ⌝ }
 {
-    if kind == 1 {
-        return both(zero_between(r, 4, 7), zero_between(r, 12, 16));
+    if kind == OPEN {
+        return both(
+            zero_between(r, METHOD_AT, ZERO_AT),
+            zero_between(r, MEASURED_AT, USED_LIMIT_AT),
+        );
     }
-    if kind == 2 {
+    if kind == CLAIM {
         return true;
     }
-    if kind == 3 {
-        return both(zero_between(r, 4, 7), zero_between(r, 16, 24));
+    if kind == RELEASE {
+        return both(
+            zero_between(r, METHOD_AT, ZERO_AT),
+            zero_between(r, VALUE_AT, RECORD_BYTES),
+        );
     }
     false
 }
 
-// The fields of a claim.
-pub fn asked_in(r: &[u8]) -> Asked
+// The claim that a record asks for, with the ticket that it would take.
+pub fn asked_in(r: &[u8], ticket: u32) -> Claim
     requires { ⌜ length (now r) ≡ 24 ⌝ }
-    ensures { λ q. ⌜ askedOf q ≡ askedIn (now (r .entry)) ⌝ }
+    ensures { λ c. ⌜ c ≡ claimOf (askedIn (now (r .entry))) ticket ⌝ }
 {
-    Asked {
-        now: word_at(r, 8),
-        method: r[4] as u32,
-        priority: r[5] as u32,
-        flag: r[6] as u32,
-        measured: word_at(r, 12),
-        value: signed_at(r, 16),
-        error: word_at(r, 20),
+    Claim {
+        ticket,
+        method: r[METHOD_AT] as u32,
+        priority: r[PRIORITY_AT] as u32,
+        flag: r[FLAG_AT] as u32,
+        measured: word_at(r, MEASURED_AT),
+        value: signed_at(r, VALUE_AT),
+        error: word_at(r, ERROR_AT),
+        told: 0,
+        amount: 0,
     }
 }

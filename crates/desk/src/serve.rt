@@ -2,42 +2,43 @@
 // writes nothing to the part.
 
 ghost use mathlib.Core.Path.{_≡_};
-ghost use mathlib.Core.Bool.{true};
 ghost use mathlib.Core.List.{[]};
 ghost use lib.ListN.{length};
 ghost use Rattle.law.specs.Calls.{claim as lawClaim, release as lawRelease};
-ghost use Rattle.law.specs.Base.{sumOf};
-ghost use Rattle.law.specs.Sound.{Sound};
 ghost use Rattle.law.specs.DiskType.{diskTable};
-ghost use Rattle.rules.specs.Masks.{methodsOf};
-ghost use Rattle.rules.specs.Pairs.{addOf};
-ghost use Rattle.rules.specs.Answers.{askedOf};
-ghost use Rattle.part.specs.Layout.{decodes};
-ghost use Rattle.part.specs.Held.{held};
-ghost use Rattle.sound.specs.Seen.{SeenIs};
+ghost use Rattle.rules.specs.Answers.{NewOn, requestOf};
+ghost use Rattle.rules.specs.Totals.{totalsOf};
+ghost use Rattle.part.specs.Held.{held, HoldsSound};
 ghost use Rattle.answer.specs.declared.Answer.the-variants.{Refused};
 ghost use Rattle.answer.specs.Answers.{numberOf, answerBytes};
 ghost use Rattle.desk.specs.Record.{callOf};
 ghost use Rattle.desk.specs.Step.{settled, released, serveOf, stepped, written};
+use crate::find::find_active;
+use crate::find::find_waiting;
+use crate::record::CLAIM;
+use crate::record::KIND_AT;
+use crate::record::NOW_AT;
+use crate::record::TICKET_AT;
 use crate::record::asked_in;
 use answer::Answer;
 use answer::Refusal;
+use answer::code;
 use answer::number;
 use answer::put_answer;
-use answer::refusal_of;
 use change::grant::grant_new;
 use change::moves::end;
 use change::moves::leave;
 use change::moves::wait;
-use judge::decision::without_one;
 use judge::judged;
+use law::Claim;
 use num::word::word_at;
+use part::read::actives_at;
+use part::read::clock_at;
+use part::read::next_at;
+use part::read::waitings_at;
 use part::whole::decodes;
 use pass::pass;
-use rules::calls::asked;
-use rules::disk::Asked;
-use slots::find_in;
-use sound::Seen;
+use rules::totals::Totals;
 use sound::is_sound;
 
 // Refuses: the number in the first item, all else zero.
@@ -50,70 +51,54 @@ pub fn refuse(answer: &mut [u8], r: Refusal) -> u32
     number(r)
 }
 
-// A claim on a sound part, of which that has been seen.
-fn serve_claim(part: &mut [u8], q: Asked, seen: Seen, answer: &mut [u8]) -> u32
-    requires { ⌜ length (now part) ≡ 768 ⌝ }
-    requires { ⌜ decodes (now part) ≡ true ⌝ }
-    requires { ⌜ Sound diskTable (held (now part)) ⌝ }
+// Answers the new claim c at that second, then changes the part as the answer says: the claim is granted, or waits; a refusal
+// changes nothing. The part is sound, and `t` are the totals of its active claims.
+fn serve_claim(part: &mut [u8], c: Claim, second: u32, t: Totals, answer: &mut [u8]) -> u32
+    requires { ⌜ HoldsSound (now part) ⌝ }
+    requires { ⌜ NewOn (held (now part)) c ⌝ }
     requires { ⌜ length (now answer) ≡ 144 ⌝ }
-    requires { ⌜ SeenIs (seen .adds) (seen .methods) (seen .twice) (held (now part)) ⌝ }
-    ensures { λ n. ⌜ stepped n (now (part .exit)) (now (answer .exit)) ≡ written (settled (now (part .entry)) (lawClaim diskTable (held (now (part .entry))) (askedOf q))) ⌝ }
+    requires { ⌜ t ≡ totalsOf (held (now part) .core .active) ⌝ }
+    ensures { λ n. ⌜ stepped n (now (part .exit)) (now (answer .exit)) ≡ written (settled (now (part .entry)) (lawClaim diskTable (held (now (part .entry))) (requestOf second c))) ⌝ }
 {
-    let j = judged(part, q, seen.adds, seen.methods);
-    let own = j.own;
-    if j.refusal != 0 {
-        return refuse(answer, refusal_of(j.refusal));
+    let a = judged(part, c, second, t);
+    put_answer(answer, a);
+    match a {
+        Answer::Granted(_, told, amount) => grant_new(part, second, c, told, amount),
+        Answer::Waits(_) => wait(part, second, c),
+        _ => {}
     }
-    let c = asked(q, word_at(part, 4));
-    if own.code == 0 {
-        put_answer(answer, Answer::Granted(own.ticket, own.told, own.amount));
-        grant_new(part, q.now, c, own.told, own.amount);
-        return 0;
-    }
-    put_answer(answer, Answer::Waits(own.ticket));
-    wait(part, q.now, c);
-    1
+    code(a)
 }
 
-// The claim of that ticket has ended: the release is answered, and the pass runs, with what the active claims come to.
-fn settle(part: &mut [u8], ticket: u32, adds: u64, methods: u64, answer: &mut [u8]) -> u32
-    requires { ⌜ length (now part) ≡ 768 ⌝ }
-    requires { ⌜ decodes (now part) ≡ true ⌝ }
-    requires { ⌜ Sound diskTable (held (now part)) ⌝ }
+// The claim of that ticket has ended: the release is answered, and the pass runs.
+fn settle(part: &mut [u8], ticket: u32, answer: &mut [u8]) -> u32
+    requires { ⌜ HoldsSound (now part) ⌝ }
     requires { ⌜ length (now answer) ≡ 144 ⌝ }
-    requires { ⌜ adds ≡ sumOf addOf (held (now part) .core .active) ⌝ }
-    requires { ⌜ methods ≡ methodsOf (held (now part) .core .active) ⌝ }
     ensures { λ n. ⌜ stepped n (now (part .exit)) (now (answer .exit)) ≡ written (settled (now (part .entry)) (released (held (now (part .entry))) ticket)) ⌝ }
 {
     put_answer(answer, Answer::Released(ticket));
-    pass(part, answer, adds, methods);
+    pass(part, answer);
     2
 }
 
-// A release on a sound part, of which that has been seen.
-fn serve_release(part: &mut [u8], second: u32, ticket: u32, seen: Seen, answer: &mut [u8]) -> u32
-    requires { ⌜ length (now part) ≡ 768 ⌝ }
-    requires { ⌜ decodes (now part) ≡ true ⌝ }
-    requires { ⌜ Sound diskTable (held (now part)) ⌝ }
+// A release on a sound part.
+fn serve_release(part: &mut [u8], second: u32, ticket: u32, answer: &mut [u8]) -> u32
+    requires { ⌜ HoldsSound (now part) ⌝ }
     requires { ⌜ length (now answer) ≡ 144 ⌝ }
-    requires { ⌜ SeenIs (seen .adds) (seen .methods) (seen .twice) (held (now part)) ⌝ }
     ensures { λ n. ⌜ stepped n (now (part .exit)) (now (answer .exit)) ≡ written (settled (now (part .entry)) (lawRelease diskTable (held (now (part .entry))) second ticket)) ⌝ }
 {
-    if second < word_at(part, 0) {
+    if second < clock_at(part) {
         return refuse(answer, Refusal::Clock);
     }
-    let actives = word_at(part, 8) as usize;
-    let at = find_in(&part[64..416], actives, ticket);
-    if at < actives {
-        let rest = without_one(part, at, seen.adds, seen.methods, seen.twice);
+    let at = find_active(part, ticket);
+    if at < actives_at(part) as usize {
         end(part, second, at);
-        return settle(part, ticket, rest.adds, rest.methods, answer);
+        return settle(part, ticket, answer);
     }
-    let waitings = word_at(part, 12) as usize;
-    let place = find_in(&part[416..768], waitings, ticket);
-    if place < waitings {
+    let place = find_waiting(part, ticket);
+    if place < waitings_at(part) as usize {
         leave(part, second, place);
-        return settle(part, ticket, seen.adds, seen.methods, answer);
+        return settle(part, ticket, answer);
     }
     refuse(answer, Refusal::Ticket)
 }
@@ -132,8 +117,10 @@ pub fn serve(part: &mut [u8], r: &[u8], answer: &mut [u8]) -> u32
     if !seen.ok {
         return refuse(answer, Refusal::Unsound);
     }
-    if r[2] == 2 {
-        return serve_claim(part, asked_in(r), seen, answer);
+    if r[KIND_AT] == CLAIM {
+        let c = asked_in(r, next_at(part));
+        let totals = seen.totals;
+        return serve_claim(part, c, word_at(r, NOW_AT), totals, answer);
     }
-    serve_release(part, word_at(r, 8), word_at(r, 12), seen, answer)
+    serve_release(part, word_at(r, NOW_AT), word_at(r, TICKET_AT), answer)
 }

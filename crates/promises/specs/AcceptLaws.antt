@@ -19,12 +19,13 @@ use Rattle.law.specs.DiskType.{diskTable}
 use Rattle.law.specs.Events.{by-rules}
 use Rattle.law.specs.Says.{by-test, Says, fails, says-lt, says-self, says-fails, says-none, none, _⊳_ as _then_, says-tests, _and_}
 use Rattle.law.specs.Sentences.{Sentence, FirstHolds}
+use Rattle.rules.specs.Answers.{answerOf}
 use Rattle.answer.specs.Answers.{refusalOf}
 use Rattle.answer.specs.AnswerLaws.{number-range}
 use Rattle.desk.specs.Record.{kindByte, diskNumber, nowOf, askedIn, usedLimit, promisedLimit, wellFormed}
 use Rattle.desk.specs.Board.{disks, partOf}
 use Rattle.part.specs.Held.{held, soundPart}
-use Rattle.desk.specs.Step.{answerOf, stepOf}
+use Rattle.desk.specs.Step.{stepOf}
 use Rattle.num.specs.Word.{wordAt}
 use Rattle.promises.specs.Sentences.{WellFormed, KindFits, NoneHold, Grants, GrantsIn, sentences}
 use Rattle.promises.specs.RefusalLaws.{says-formed, outcomeCode, firstOf, tests, opened, served, lengths, code-by}

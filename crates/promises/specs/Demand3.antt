@@ -24,12 +24,13 @@ use Rattle.law.specs.Conditions.{Reading, Free, readingItem}
 use Rattle.law.specs.GrantedAtOnce.{granted-at-once as law-granted-at-once}
 use Rattle.law.specs.ReaderBound.{Bounded, reader-bound, granted-once as law-granted-once}
 use Rattle.law.specs.DiskType.{diskTable}
+use Rattle.rules.specs.Answers.{answerOf}
 use Rattle.answer.specs.declared.Answer.the-variants as A
 use Rattle.answer.specs.Answers.{codeOf, answerBytes, answerSize}
 use Rattle.desk.specs.Record.{byteAt, kindByte, diskNumber, askedIn, callOf}
 use Rattle.desk.specs.Board.{disks, boardBytes, partOf, withPart}
 use Rattle.part.specs.Held.{held, partFor, soundPart}
-use Rattle.desk.specs.Step.{answerOf, ownOf, grantsOf, accepts, effect, serveOf, onBoard, effectOf, Stepped, written, stepOf}
+use Rattle.desk.specs.Step.{ownOf, grantsOf, accepts, effect, serveOf, onBoard, effectOf, Stepped, written, stepOf}
 use Rattle.promises.specs.Sentences.{WellFormed}
 use Rattle.promises.specs.RefusalLaws.{says-formed}
 use Rattle.promises.specs.Histories.{BoardCall, BytesIn, stepBy, saidBy, begun, lived}

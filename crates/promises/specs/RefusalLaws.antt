@@ -22,6 +22,7 @@ use Rattle.law.specs.DiskType.{diskTable}
 use Rattle.law.specs.Says.{by-test, Says, fails, says-le, says-eq, says-not, says-and, says-two, says-fails, says-self, none, _⊳_ as _then_, says-tests, _and_}
 use Rattle.law.specs.Sentences.{Sentence, FirstHolds, openSentences, sentencesOf}
 use Rattle.law.specs.Refusals.{Matches, done, _⊳_, open-refused-by-rule, refused-exactly}
+use Rattle.rules.specs.Answers.{answerOf}
 use Rattle.part.specs.ByteLaws.{zero-byte}
 use Rattle.answer.specs.declared.Answer.{Answer}
 use Rattle.answer.specs.declared.Answer.the-variants as A
@@ -33,7 +34,7 @@ use Rattle.desk.specs.Board.{disks, boardBytes, partOf, withPart}
 use Rattle.desk.specs.BoardLaws.{with-same}
 use Rattle.part.specs.PartLaws.{sound-decodes, sound-held, sound-part}
 use Rattle.part.specs.Held.{held, soundPart}
-use Rattle.desk.specs.Step.{answerOf, Said, refuses, accepts, ownOf, grantsOf, Effect, refusing, settled, serveOf, onPart, opening, onBoard, effectOf, Stepped, stepped, written, stepOf}
+use Rattle.desk.specs.Step.{Said, refuses, accepts, ownOf, grantsOf, Effect, refusing, settled, serveOf, onPart, opening, onBoard, effectOf, Stepped, stepped, written, stepOf}
 use Rattle.desk.specs.StepLaws.{by-answer, by-serve, by-effect}
 use Rattle.promises.specs.Sentences.{Unused, KindFits, WellFormed, SoundPart, ruleSentences, sentences}
 

@@ -3,21 +3,21 @@ use Prim.Native.Nat.{ℕ}
 use mathlib.Core.Bool.{Bool, true, false}
 use mathlib.Core.List.{List}
 use mathlib.Core.Path.{_≡_, refl, sym, ap, _∙_}
+use Rattle.num.specs.Word.{Bytes}
 use Rattle.law.specs.declared.Claim.{Claim}
-use Rattle.law.specs.Types.{Core, Asked as LawAsked, Disk as LawDisk}
+use Rattle.law.specs.Types.{Core, Disk as LawDisk}
 use Rattle.rules.specs.Rows.{RowIs}
 use Rattle.rules.specs.DiskLaws.{row-padded}
-use Rattle.rules.specs.declared.disk.Asked.{Asked}
-use Rattle.rules.specs.Answers.{askedOf}
 use Rattle.rules.specs.Disks.{DiskIs}
 use Rattle.part.specs.Layout.{slots, inSlots, decode}
-use Rattle.slots.specs.Slots.{Canonical}
-use Rattle.sound.specs.Seen.{SeenIs, Nothing}
+use Rattle.part.specs.Held.{HoldsDisk}
+use Rattle.slots.specs.Slots.{Slots}
+use Rattle.sound.specs.declared.Seen.{Seen}
+use Rattle.sound.specs.Seen.{seenOf}
 use Rattle.judge.specs.Decisions.{DecidedIs}
 use Rattle.answer.specs.declared.Answer.{Answer}
 use Rattle.answer.specs.Answers.{OwnOnly, Behind}
-use Rattle.change.specs.Holding.{Holds}
-use Rattle.change.specs.HoldingLaws.{holds-part}
+use Rattle.change.specs.HoldingLaws.{disk-holds, holds-part}
 use Rattle.desk.specs.declared.board.Count.{Count}
 use Rattle.desk.specs.Counts.{countOf}
 use Rattle.desk.specs.Step.{Stepped, stepped, stepOf}
@@ -40,22 +40,6 @@ step-unique b r a p q = (
 pub count-unique : (b : List ℕ) {n m : Count} → n ≡ countOf b → m ≡ countOf b → n ≡ m
 count-unique b p q = unique p q
 
--- The fields of a claim, stated as the law's request, field by field.
-pub asked-unique : {x y : Asked} {q : LawAsked} → askedOf x ≡ q → askedOf y ≡ q → x ≡ y
-asked-unique p q =
-    ap
-    (λ (l : LawAsked).
-    record {
-      now = l .now;
-      method = l .method;
-      priority = l .priority;
-      flag = l .flag;
-      measured = l .measured;
-      value = l .value;
-      error = l .error;
-    })
-    (unique p q)
-
 -- ---- the decision
 
 -- Whether the claim is granted, and its total.
@@ -69,31 +53,23 @@ decided-unique {ok} {yes} {n} {m} x y = (unique (x .says) (y .says), total ok re
 
 -- ---- the soundness test
 
--- Whether a disk is sound, and the numbers handed on.
-pub seen-unique : (d : LawDisk) {ok yes b : Bool} {n m k l t u : ℕ} →
-    ok ≡ b → (ok ≡ true → SeenIs n k t d) → (ok ≡ false → Nothing n k t) →
-    yes ≡ b → (yes ≡ true → SeenIs m l u d) → (yes ≡ false → Nothing m l u) → (ok ≡ yes) × (n ≡ m) × (k ≡ l) × (t ≡ u)
-seen-unique d {ok} {yes} {b} {n} {m} {k} {l} {t} {u} e f g h i j =
-    let r = handed ok refl in
-    (unique e h, r .0, r .1, r .2)
-  where
-    handed : (v : Bool) → ok ≡ v → (n ≡ m) × (k ≡ l) × (t ≡ u)
-    handed true q = let r = unique h e ∙ q in (unique (f q .0) (i r .0), unique (f q .1) (i r .1), unique (f q .2) (i r .2))
-    handed false q = let r = unique h e ∙ q in (unique (g q .0) (j r .0), unique (g q .1) (j r .1), unique (g q .2) (j r .2))
+-- Whether a disk is sound, and the totals handed on.
+pub seen-unique : (d : LawDisk) {x y : Seen} → x ≡ seenOf d → y ≡ seenOf d → x ≡ y
+seen-unique d p q = unique p q
 
 -- ---- bytes that are stated by what they hold
 
 -- Eight slots, stated by their claims.
-pub slots-unique : {r s : List ℕ} {cs : List Claim} → Canonical r → slots 8 r ≡ cs → Canonical s → slots 8 s ≡ cs → r ≡ s
-slots-unique k p l q = sym k ∙ ap inSlots (unique p q) ∙ l
+pub slots-unique : {r s : List ℕ} {cs : List Claim} → Slots r → slots 8 r ≡ cs → Slots s → slots 8 s ≡ cs → r ≡ s
+slots-unique k p l q = sym (k .canonical) ∙ ap inSlots (unique p q) ∙ l .canonical
 
 -- Eight slots, stated by a list of claims and its length.
-pub row-unique : {r s : List ℕ} {n : ℕ} {ws : List Claim} → Canonical r → RowIs (slots 8 r) n ws → Canonical s → RowIs (slots 8 s) n ws → r ≡ s
+pub row-unique : {r s : List ℕ} {n : ℕ} {ws : List Claim} → Slots r → RowIs (slots 8 r) n ws → Slots s → RowIs (slots 8 s) n ws → r ≡ s
 row-unique k p l q = slots-unique k (row-padded (p .row) (p .list) ∙ sym (row-padded (q .row) (q .list))) l refl
 
--- A part, stated by the law's disk that it holds.
-pub part-unique : {p q : List ℕ} {d : LawDisk} → Holds p (decode p) → DiskIs (decode p) d → Holds q (decode q) → DiskIs (decode q) d → p ≡ q
-part-unique h x k y = unique (holds-part h x) (holds-part k y)
+-- A part, which is bytes, stated by the law's disk that it holds.
+pub part-unique : {p q : List ℕ} {d : LawDisk} → Bytes p → HoldsDisk p → DiskIs (decode p) d → Bytes q → HoldsDisk q → DiskIs (decode q) d → p ≡ q
+part-unique b h x c k y = unique (holds-part (disk-holds h b) x) (holds-part (disk-holds k c) y)
 
 -- The answer buffer, stated by the grants behind the one answer that it held.
 pub behind-unique : (grants : List Answer) {a b c : List ℕ} → OwnOnly a → Behind a grants b → Behind a grants c → b ≡ c

@@ -17,16 +17,14 @@ use crate::rows::COUNT;
 use crate::rows::OPEN;
 use crate::rows::ROWS;
 use crate::rows::SHOW;
+use answer::ANSWER_BYTES;
+use desk::board::BOARD_BYTES;
 use desk::board::step;
 use part::read::active_at;
 
 const HEAD_BYTES: usize = 64;
 
 const PART_BYTES: usize = 768;
-
-const BOARD_BYTES: usize = 49216;
-
-const ANSWER_BYTES: usize = 144;
 
 // Where the part of the disk begins and ends.
 const PART_FROM: usize = HEAD_BYTES + PART_BYTES * DISK as usize;

@@ -28,6 +28,7 @@ use Rattle.law.specs.SoundKept.{sound-fit, sound-finish}
 use Rattle.law.specs.ProperLaws.{proper-kind, disk-proper}
 use Rattle.law.specs.DiskType.{diskTable}
 use Rattle.rules.proofs.RangeLaws.{limit-most, error-most, limit-range, told-most}
+use Rattle.rules.specs.Answers.{answerOf}
 use Rattle.part.specs.Held.{held}
 use Rattle.part.specs.PartLaws.{sound-held}
 use Rattle.answer.specs.declared.Answer.{Answer}
@@ -35,7 +36,7 @@ use Rattle.answer.specs.declared.Answer.the-variants as A
 use Rattle.answer.specs.Answers.{codeOf, ticketOf}
 use Rattle.desk.specs.Record.{diskNumber, nowOf, askedIn, callOf, usedLimit, promisedLimit}
 use Rattle.desk.specs.Board.{partOf}
-use Rattle.desk.specs.Step.{answerOf, Said, refuses, accepts, ownOf, grantsOf, settled, serveOf, opening, effectOf}
+use Rattle.desk.specs.Step.{Said, refuses, accepts, ownOf, grantsOf, settled, serveOf, opening, effectOf}
 use Rattle.desk.specs.StepLaws.{by-answer, by-call, by-serve, by-effect}
 use Rattle.stopblocker.specs.LineLaws.{ItemFits, GrantFits}
 

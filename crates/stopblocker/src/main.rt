@@ -11,13 +11,11 @@ ghost use Rattle.num.specs.Runs.{splice};
 ghost use Rattle.records.specs.Pieces.{span, bytesOf};
 ghost use Rattle.stopblocker.specs.Answering.{called, shownDisk, answerLines, dueAt, reached, answeredRun};
 use crate::lines::put_lines;
+use answer::ANSWER_BYTES;
+use desk::board::BOARD_BYTES;
 use desk::board::step;
 use records::Piece;
 use records::piece_in;
-
-const BOARD_BYTES: usize = 49216;
-
-const ANSWER_BYTES: usize = 144;
 
 // 256 records.
 const RUN_BYTES: usize = 6144;

@@ -1,23 +1,25 @@
--- The open is refused with its number, or the opened disk's part stands in its place with the bit set.
-use mathlib.Core.List.{[]}
-use mathlib.Core.Path.{ap, _∙_}
+-- Limits out of range are refused 17; else the opened disk's part stands in its place, with the bit set.
 use borrow.Author.Needs.{needs}
-use Rattle.law.specs.Calls.{openDisk}
-use Rattle.rules.specs.Answers.{Answers}
-use Rattle.answer.specs.declared.Refusal.{Refusal}
-use Rattle.answer.specs.declared.Answer.the-variants as A
-use Rattle.answer.specs.Answers.{numberOf, answerBytes}
+use mathlib.Core.Path.{_≡_, sym, ap, _∙_}
+use borrow.Author.Tests.{not-true, not-false}
+use Rattle.num.specs.Opened.{setOpen}
+use Rattle.law.specs.Calls.{opened as lawOpened, limitsFit}
+use Rattle.answer.specs.declared.Refusal.the-variants as R
+use Rattle.rules.specs.declared.disk.Disk.{Disk}
+use Rattle.rules.specs.Disks.{byValue}
+use Rattle.part.specs.Layout.{encode}
+use Rattle.desk.specs.Board.{withPart}
 use Rattle.desk.specs.Record.{nowOf, usedLimit, promisedLimit}
-use Rattle.desk.proofs.ServeLaws.{answers-refused}
-use Rattle.desk.proofs.FrameLaws.{open-refused, open-accepted}
+use Rattle.desk.proofs.FrameLaws.{step-refusing, open-refused, open-accepted}
 use Rattle.desk.proofs.board.open_on.Statement.{statement}
 use Rattle.desk.proofs.board.open_on.Tie as tie
 
--- The open is that of the record's fields.
-answers : (k : tie.After-open) →
-    Answers (k .«open» .result .refusal) (k .«open» .result .disk)
-    (openDisk (nowOf (k .before .before .before .before .before .before .before .args .r .now)) (usedLimit (k .before .before .before .before .before .before .before .args .r .now)) (promisedLimit (k .before .before .before .before .before .before .before .args .r .now)))
-answers k = rw (k .before .before .before .word-at .ensures, k .before .before .word-at2 .ensures, k .before .word-at3 .ensures) at (k .«open» .ensures)
+abbrev start : tie.After-limits-fit → tie.Start
+start k = k .before .before .before .before .before .before
+
+-- The limits tested are those of the record.
+fits : (k : tie.After-limits-fit) → k .limits-fit .result ≡ limitsFit (usedLimit (start k .args .r .now)) (promisedLimit (start k .args .r .now))
+fits k = k .limits-fit .ensures ∙ (λ i. limitsFit (k .before .before .word-at .ensures i) (k .before .word-at2 .ensures i))
 
 word-at-requires : tie.Need-word-at-requires
 word-at-requires c κs = search needs
@@ -25,36 +27,34 @@ word-at-requires c κs = search needs
 word-at-requires-2 : tie.Need-word-at-requires-2
 word-at-requires-2 c κs = search needs
 
-word-at-requires-3 : tie.Need-word-at-requires-3
-word-at-requires-3 c κs = search needs
-
-open-requires : tie.Need-open-requires
-open-requires c κs = search needs
-
-refusal-of-requires : tie.Need-refusal-of-requires
-refusal-of-requires c κs = search needs
+limits-fit-requires : tie.Need-limits-fit-requires
+limits-fit-requires c κs = search needs
 
 refuse-requires : tie.Need-refuse-requires
-refuse-requires c κs = c .before .before .before .before .before .before .before .before .before .before .before .pre .1 .1 .0
+refuse-requires c κs = c .before .before .before .before .before .before .before .before .pre .1 .1 .0
 
 same-length : tie.Need-same-length
 same-length c = search needs
 
 returns : tie.Need-returns
 returns c =
-    let k = c .before .before .before .before .before .before .before in
-    let a = k .before .before .before .before .before .before .before .args in
-    let r = c .before .before .before .refusal-of .ensures in
+    let k = c .before .before .before .before .before in
+    let a = start k .args in
     let e = c .before .before .refuse .ensures in
-    open-refused (a .board .now) (a .d) {o = openDisk (nowOf (a .r .now)) (usedLimit (a .r .now)) (promisedLimit (a .r .now))} (k .«open» .result .refusal)
-    (answers-refused (k .«open» .result .refusal) (k .«open» .result .disk) _ (answers k) (c .before .before .before .before .before .if1 .taken))
-    (e .0 ∙ ap numberOf r) (e .1 ∙ ap (λ (x : Refusal). answerBytes (A.Refused x) []) r)
+    open-refused (a .board .now) (a .d) (nowOf (a .r .now)) (usedLimit (a .r .now)) (promisedLimit (a .r .now))
+    (sym (fits k) ∙ not-true _ (c .before .before .before .before .if1 .taken)) (step-refusing (a .board .now) R.Field (e .0) (e .1))
+
+word-at-requires-3 : tie.Need-word-at-requires-3
+word-at-requires-3 c κs = search needs
+
+opened-requires : tie.Need-opened-requires
+opened-requires c κs = search needs
 
 put-open-requires : tie.Need-put-open-requires
-put-open-requires c κs = (c .before .before .before .before .before .before .before .before .before .before .before .pre .0, c .before .before .before .before .before .before .before .before .before .before .before .pre .1 .1 .1)
+put-open-requires c κs = let s = c .before .before .before .before .before .before .before .before .before .before in (s .pre .0, s .pre .1 .1 .1)
 
 put-answer-requires : tie.Need-put-answer-requires
-put-answer-requires c κs = c .before .before .before .before .before .before .before .before .before .before .before .before .before .before .before .pre .1 .1 .0
+put-answer-requires c κs = c .before .before .before .before .before .before .before .before .before .before .before .before .before .before .pre .1 .1 .0
 
 same-length-2 : tie.Need-same-length-2
 same-length-2 c = search needs
@@ -65,9 +65,12 @@ same-length-3 c = search needs
 returns-2 : tie.Need-returns-2
 returns-2 c =
     let k = c .before .before .before .before .before .before .before .before .before .before .before in
-    let a = k .before .before .before .before .before .before .before .args in
-    open-accepted (a .board .now) (a .d) (nowOf (a .r .now)) (usedLimit (a .r .now)) (promisedLimit (a .r .now)) (k .«open» .result .disk)
-    (answers k) (c .before .before .before .before .before .before .before .before .before .if1 .left) (c .before .before .before .before .before .before .put-open .ensures) (c .before .before .put-answer .ensures)
+    let a = start k .args in
+    let o = c .before .before .before .before .before .before .before in
+    let made = o .opened .ensures ∙ (λ i. byValue (lawOpened (o .before .word-at3 .ensures i) (k .before .before .word-at .ensures i) (k .before .word-at2 .ensures i))) in
+    open-accepted (a .board .now) (a .d) (nowOf (a .r .now)) (usedLimit (a .r .now)) (promisedLimit (a .r .now))
+    (sym (fits k) ∙ not-false _ (c .before .before .before .before .before .before .before .before .before .before .if1 .left))
+    (c .before .before .before .before .before .before .put-open .ensures ∙ ap (λ (e : Disk). setOpen (withPart (a .board .now) (a .d) (encode e)) (a .d)) made) (c .before .before .put-answer .ensures)
 
 pub open-on-spec : {M : Type 1} → statement M
 open-on-spec =
@@ -75,12 +78,12 @@ open-on-spec =
     (tie.spec
     word-at-requires
     word-at-requires-2
-    word-at-requires-3
-    open-requires
-    refusal-of-requires
+    limits-fit-requires
     refuse-requires
     same-length
     returns
+    word-at-requires-3
+    opened-requires
     put-open-requires
     put-answer-requires
     same-length-2

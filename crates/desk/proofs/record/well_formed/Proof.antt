@@ -1,61 +1,53 @@
 -- Each test settles the list, or leaves the rest of it.
 use mathlib.Core.Bool.{and-true, and-false}
+use native.Mathlib.Omega.{arith}
 use borrow.Author.Needs.{needs}
 use borrow.Author.Tests.{eq-eqb, ne-eqb, le-leb, lt-leb}
 use Rattle.desk.specs.Record.{wellFormed}
 use Rattle.desk.proofs.record.well_formed.Statement.{statement}
 use Rattle.desk.proofs.record.well_formed.Tie as tie
 
--- src/record.rt:20:9
 returns : tie.Need-returns
 unfolding wellFormed
 returns c = rw (ne-eqb _ _ (c .if1 .taken))
 
--- src/record.rt:22:8
 shared-slice-read-if2 : tie.Need-shared-slice-read-if2
 shared-slice-read-if2 c = search needs
 
--- src/record.rt:23:9
 returns-2 : tie.Need-returns-2
 unfolding wellFormed
 returns-2 c = rw (ne-eqb _ _ (c .if2 .taken)) (simp and-false)
 
--- src/record.rt:25:8
 shared-slice-read-if3 : tie.Need-shared-slice-read-if3
 shared-slice-read-if3 c = search needs
 
--- src/record.rt:26:9
 returns-3 : tie.Need-returns-3
 unfolding wellFormed
 returns-3 c = rw (ne-eqb _ _ (c .if3 .taken)) (simp and-false)
 
--- src/record.rt:28:8
 shared-slice-read-if4 : tie.Need-shared-slice-read-if4
 shared-slice-read-if4 c = search needs
 
--- src/record.rt:29:9
 returns-4 : tie.Need-returns-4
 unfolding wellFormed
 returns-4 c = rw (ne-eqb _ _ (c .if4 .taken)) (simp and-false)
 
--- src/record.rt:31:12
 shared-slice-read-if5 : tie.Need-shared-slice-read-if5
 shared-slice-read-if5 c = search needs
 
--- src/record.rt:32:9
+cast-if5 : tie.Need-cast-if5
+cast-if5 c = record { fits = omega (arith, c .shared-slice-known5 .given 6) }
+
 returns-5 : tie.Need-returns-5
 unfolding wellFormed
 returns-5 c = rw (lt-leb _ _ (c .if5 .taken)) (simp and-false)
 
--- src/record.rt:34:18
 shared-slice-read-kind-fits : tie.Need-shared-slice-read-kind-fits
 shared-slice-read-kind-fits c = search needs
 
--- src/record.rt:34:5
 kind-fits-requires : tie.Need-kind-fits-requires
 kind-fits-requires c κs = search needs
 
--- src/record.rt:16:1
 returns-6 : tie.Need-returns-6
 unfolding wellFormed
 returns-6 c =
@@ -80,6 +72,7 @@ well-formed-spec =
     shared-slice-read-if4
     returns-4
     shared-slice-read-if5
+    cast-if5
     returns-5
     shared-slice-read-kind-fits
     kind-fits-requires

@@ -1,25 +1,57 @@
 -- A part that does not decode, or whose disk is not sound, is refused; else it is that disk, and the rules decide.
-use mathlib.Core.Bool.{true}
-use mathlib.Core.Path.{_≡_, refl, sym, _∙_}
+use mathlib.Core.Bool.{Bool, true, cond}
+use mathlib.Core.Path.{_≡_, refl, sym, ap, _∙_}
 use borrow.Author.Needs.{needs}
 use borrow.Author.Tests.{not-true, not-false}
+use Rattle.law.specs.Types.{Disk as LawDisk}
 use Rattle.law.specs.SoundTest.{says-sound}
 use Rattle.law.specs.DiskType.{diskTable}
 use Rattle.law.specs.Sound.{sound}
-use Rattle.rules.specs.Disks.{diskOf}
+use Rattle.rules.specs.declared.totals.Totals.{Totals}
+use Rattle.rules.specs.Totals.{noTotals, totalsOf}
 use Rattle.part.specs.Layout.{decode, decodes}
+use Rattle.part.specs.Held.{held, HoldsSound}
+use Rattle.sound.specs.declared.Seen.{Seen}
+use Rattle.sound.specs.Seen.{seenOf}
 use Rattle.desk.specs.Record.{callOf}
-use Rattle.desk.proofs.ServeLaws.{serve-undecoded, serve-unsound, serve-claims, serve-releases}
+use Rattle.desk.proofs.ServeLaws.{serve-undecoded, serve-unsound, serve-claims, serve-releases, asked-new, asked-request}
 use Rattle.desk.proofs.serve.serve.Statement.{statement}
 use Rattle.desk.proofs.serve.serve.Tie as tie
 
--- The part decodes.
-whole : (b : tie.Else1) → decodes (b .before .before .before .before .before .before .args .part .now) ≡ true
-whole b = sym (b .before .decodes .ensures) ∙ not-false _ (b .if1 .left)
+-- ---- the stops: the part decodes, and its disk is sound
 
--- The disk that it holds is sound.
-holds : (b : tie.Else2) → sound diskTable (diskOf (decode (b .before .before .before .before .before .before .before .before .before .before .args .part .now))) ≡ true
-holds b = sym (b .before .before .is-sound .ensures .0) ∙ not-false _ (b .if2 .left)
+abbrev at-1 : tie.Else1 → tie.Start
+at-1 l = l .before .before .before .before .before .before
+
+abbrev else-1 : tie.Else2 → tie.Else1
+else-1 l = l .before .before .before .before
+
+abbrev at-2 : tie.Else2 → tie.Start
+at-2 l = at-1 (else-1 l)
+
+whole : (l : tie.Else1) → decodes (at-1 l .args .part .now) ≡ true
+whole l = sym (l .before .decodes .ensures) ∙ not-false _ (l .if1 .left)
+
+-- What is seen of a disk.
+ok-is : {s : Seen} (d : LawDisk) → s ≡ seenOf d → s .ok ≡ sound diskTable d
+unfolding seenOf
+ok-is d e = ap (λ (x : Seen). x .ok) e
+
+totals-are : {s : Seen} (d : LawDisk) → s ≡ seenOf d → sound diskTable d ≡ true → s .totals ≡ totalsOf (d .core .active)
+unfolding seenOf
+totals-are d e h = ap (λ (x : Seen). x .totals) e ∙ ap (λ (b : Bool). cond b (totalsOf (d .core .active)) noTotals) h
+
+module _ (l : tie.Else2) where
+  abbrev disk : LawDisk
+  disk = held (at-2 l .args .part .now)
+
+  sound-here : sound diskTable disk ≡ true
+  sound-here = sym (ok-is disk (l .before .before .is-sound .ensures)) ∙ not-false _ (l .if2 .left)
+
+  holds : HoldsSound (at-2 l .args .part .now)
+  holds = record { disk = record { long = at-2 l .pre .0; whole = whole (else-1 l) }; sound = says-sound diskTable disk .0 sound-here }
+
+-- ---- the needs
 
 decodes-requires : tie.Need-decodes-requires
 decodes-requires c κs = search needs
@@ -40,7 +72,7 @@ returns c =
     serve-undecoded (s .part .now) (callOf (s .r .now)) (sym (c .before .before .before .before .before .decodes .ensures) ∙ not-true _ (c .before .before .before .before .if1 .taken)) (e .0) (e .1)
 
 is-sound-requires : tie.Need-is-sound-requires
-is-sound-requires c κs = (c .before .before .before .before .before .before .before .pre .0, whole (c .before))
+is-sound-requires c κs = record { long = at-1 (c .before) .pre .0; whole = whole (c .before) }
 
 refuse-requires-2 : tie.Need-refuse-requires-2
 refuse-requires-2 c κs = search needs
@@ -54,20 +86,33 @@ same-length-4 c = search needs
 returns-2 : tie.Need-returns-2
 returns-2 c =
     let e = c .before .before .refuse2 .ensures in
-    let s = c .before .before .before .before .before .before .before .before .before .before .before .before .before .before .args in
-    serve-unsound (s .part .now) (whole (c .before .before .before .before .before .before .before .before)) {d = decode (s .part .now)} refl (callOf (s .r .now))
-    (sym (c .before .before .before .before .before .before .is-sound .ensures .0) ∙ not-true _ (c .before .before .before .before .if2 .taken)) (e .0) (e .1)
+    let l = c .before .before .before .before .before .before .before .before in
+    let s = at-1 l .args in
+    serve-unsound (s .part .now) (whole l) {d = decode (s .part .now)} refl (callOf (s .r .now))
+    (sym (ok-is (held (s .part .now)) (c .before .before .before .before .before .before .is-sound .ensures)) ∙ not-true _ (c .before .before .before .before .if2 .taken)) (e .0) (e .1)
 
 shared-slice-read-if3 : tie.Need-shared-slice-read-if3
 shared-slice-read-if3 c = search needs
 
+next-at-requires : tie.Need-next-at-requires
+next-at-requires c κs = search needs
+
 asked-in-requires : tie.Need-asked-in-requires
 asked-in-requires c κs = search needs
 
+word-at-requires : tie.Need-word-at-requires
+word-at-requires c κs = search needs
+
 serve-claim-requires : tie.Need-serve-claim-requires
 serve-claim-requires c κs =
-    let s = c .before .before .before .before .before .before .before .before .before .before .before .before .before .before .before in
-    (s .pre .0, (whole (c .before .before .before .before .before .before .before .before .before), (says-sound diskTable (diskOf (decode (s .args .part .now))) .0 (holds (c .before .before .before .before .before)), (s .pre .1 .1, c .before .before .before .before .before .before .before .is-sound .ensures .1 .0 (not-false _ (c .before .before .before .before .before .if2 .left))))))
+    let l = c .before .before .before .before .before .before .before .before .before in
+    let s = at-2 l in (
+      holds l,
+      (
+        asked-new (s .args .r .now) (c .before .before .before .before .asked-in .ensures) (disk l) (c .before .before .before .before .before .next-at .ensures),
+        (s .pre .1 .1, totals-are (disk l) (l .before .before .is-sound .ensures) (sound-here l)),
+      ),
+    )
 
 same-length-5 : tie.Need-same-length-5
 same-length-5 c = search needs
@@ -77,20 +122,19 @@ same-length-6 c = search needs
 
 returns-3 : tie.Need-returns-3
 returns-3 c =
-    let s = c .before .before .before .before .before .before .before .before .before .before .before .before .before .before .before .before .before .before .before .before .args in
-    serve-claims (s .part .now) (whole (c .before .before .before .before .before .before .before .before .before .before .before .before .before .before)) {d = decode (s .part .now)} refl (holds (c .before .before .before .before .before .before .before .before .before .before)) (s .r .now)
-    (c .before .before .before .before .before .before .asked-in .ensures) (c .before .before .before .before .before .before .before .before .if3 .taken) (c .before .before .before .before .serve-claim .ensures)
-
-word-at-requires : tie.Need-word-at-requires
-word-at-requires c κs = search needs
+    let l = c .before .before .before .before .before .before .before .before .before .before .before .before .before .before in
+    let s = at-2 l .args in
+    serve-claims (s .part .now) (whole (else-1 l)) {d = decode (s .part .now)} refl (sound-here l) (s .r .now)
+    (asked-request (s .r .now) (c .before .before .before .before .before .before .before .before .before .asked-in .ensures) (c .before .before .before .before .before .before .word-at .ensures)) (c .before .before .before .before .before .before .before .before .before .before .before .before .if3 .taken) (c .before .before .before .before .serve-claim .ensures)
 
 word-at-requires-2 : tie.Need-word-at-requires-2
 word-at-requires-2 c κs = search needs
 
+word-at-requires-3 : tie.Need-word-at-requires-3
+word-at-requires-3 c κs = search needs
+
 serve-release-requires : tie.Need-serve-release-requires
-serve-release-requires c κs =
-    let s = c .before .before .before .before .before .before .before .before .before .before .before .before .before .before .before .before in
-    (s .pre .0, (whole (c .before .before .before .before .before .before .before .before .before .before), (says-sound diskTable (diskOf (decode (s .args .part .now))) .0 (holds (c .before .before .before .before .before .before)), (s .pre .1 .1, c .before .before .before .before .before .before .before .before .is-sound .ensures .1 .0 (not-false _ (c .before .before .before .before .before .before .if2 .left))))))
+serve-release-requires c κs = let l = c .before .before .before .before .before .before in (holds l, at-2 l .pre .1 .1)
 
 same-length-7 : tie.Need-same-length-7
 same-length-7 c = search needs
@@ -100,9 +144,10 @@ same-length-8 c = search needs
 
 returns-4 : tie.Need-returns-4
 returns-4 c =
-    let s = c .before .before .before .before .before .before .before .before .before .before .before .before .before .before .before .before .before .before .before .before .before .args in
-    serve-releases (s .part .now) (whole (c .before .before .before .before .before .before .before .before .before .before .before .before .before .before .before)) {d = decode (s .part .now)} refl (holds (c .before .before .before .before .before .before .before .before .before .before .before)) (s .r .now)
-    (c .before .before .before .before .before .before .before .word-at .ensures) (c .before .before .before .before .before .before .word-at2 .ensures) (c .before .before .before .before .before .before .before .before .before .if3 .left) (c .before .before .before .before .serve-release .ensures)
+    let l = c .before .before .before .before .before .before .before .before .before .before .before in
+    let s = at-2 l .args in
+    serve-releases (s .part .now) (whole (else-1 l)) {d = decode (s .part .now)} refl (sound-here l) (s .r .now)
+    (c .before .before .before .before .before .before .before .word-at2 .ensures) (c .before .before .before .before .before .before .word-at3 .ensures) (c .before .before .before .before .before .before .before .before .before .if3 .left) (c .before .before .before .before .serve-release .ensures)
 
 pub serve-spec : {M : Type 1} → statement M
 serve-spec =
@@ -119,13 +164,15 @@ serve-spec =
     same-length-4
     returns-2
     shared-slice-read-if3
+    next-at-requires
     asked-in-requires
+    word-at-requires
     serve-claim-requires
     same-length-5
     same-length-6
     returns-3
-    word-at-requires
     word-at-requires-2
+    word-at-requires-3
     serve-release-requires
     same-length-7
     same-length-8

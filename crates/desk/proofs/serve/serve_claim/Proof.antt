@@ -1,219 +1,156 @@
--- What is judged says which of the law's outcomes it is; part and answer are that outcome's.
-use Prim.Native.Nat.{ℕ}
+-- The answer is the law's, and it says what the part becomes.
+use Prim.Native.Nat.{ℕ, _<_}
 use mathlib.Core.List.{List, [], _∷_}
+use mathlib.Core.Logic.{⊎-elim}
 use mathlib.Core.Path.{_≡_, refl, sym, ap, _∙_}
 use native.Mathlib.Omega.{arith}
 use borrow.Author.Needs.{needs}
+use denote.Enum.Declared.{tagOf}
 use lib.IntN.{ℤ}
 use mir.Facts.{toZ-ofZ}
 use mir.Syntax.{w32}
 use mir.Val.{toZ, ofZ}
+use types.Run.{OneOf}
 use Rattle.num.specs.Fits.{size-fits}
 use Rattle.num.specs.Metric.{size}
-use Rattle.rules.specs.RowLaws.{row-length}
 use Rattle.law.specs.declared.Claim.{Claim}
-use Rattle.law.specs.Types.{claimOf, Asked as LawAsked, Outcome, refused, accepted}
+use Rattle.law.specs.Types.{Disk as LawDisk, Item, Outcome, accepted}
 use Rattle.law.specs.Entries.{kindOf}
 use Rattle.law.specs.Granting.{toldBy, grantItem}
-use Rattle.law.specs.Calls.{asked, at, waitItem, claim}
+use Rattle.law.specs.Calls.{item, claim}
 use Rattle.law.specs.DiskType.{diskTable}
+use Rattle.answer.proofs.Answer.{the-type}
+use Rattle.answer.specs.declared.Answer.{Answer}
+use Rattle.answer.specs.declared.Answer.the-variants as A
+use Rattle.answer.specs.Answers.{codeOf}
 use Rattle.rules.specs.declared.disk.Disk.{Disk}
-use Rattle.rules.specs.declared.disk.Item.{Item}
-use Rattle.rules.specs.declared.calls.Judgement.{Judgement}
-use Rattle.rules.specs.Answers.{askedOf, shownBy, TakesGrant, grantedOf, waitingOf}
-use Rattle.rules.specs.Disks.{figuresIn, diskOf, Good}
+use Rattle.rules.specs.Disks.{figuresIn, diskOf, ToldFits}
+use Rattle.rules.specs.Answers.{requestOf, coreAt, grantedOf, waitingOf}
+use Rattle.rules.proofs.CallLaws.{Says, answer-says, IsGranted, IsWaiting, IsRefused}
 use Rattle.part.specs.Held.{partFor}
 use Rattle.part.specs.Layout.{decode}
-use Rattle.part.specs.LayoutLaws.{decode-good}
-use Rattle.rules.proofs.CallLaws.{claim-granted, claim-waits, shown-refused, shown-passed, shown-granted, shown-later, shown-place, ticket-fits, takes-grant}
-use Rattle.answer.specs.declared.Refusal.{Refusal}
-use Rattle.answer.specs.declared.Answer.the-variants as A
-use Rattle.answer.specs.Answers.{numberOf, answerBytes}
-use Rattle.desk.specs.Step.{answerOf}
-use Rattle.desk.proofs.ServeLaws.{step-refused, step-accepted}
+use Rattle.part.specs.PartLaws.{disk-good}
+use Rattle.desk.specs.Step.{settled, stepped, written}
+use Rattle.desk.proofs.ServeLaws.{claim-refused, claim-accepted}
 use Rattle.desk.proofs.serve.serve_claim.Statement.{statement}
 use Rattle.desk.proofs.serve.serve_claim.Tie as tie
 
--- The disk of the part.
-abbrev disk : tie.Start → Disk
-disk s = decode (s .args .part .now)
+-- ---- the answer, once it stands in the buffer
 
-good : (s : tie.Start) → Good (disk s)
-good s = decode-good (s .args .part .now) (s .pre .0) (s .pre .1 .0)
+module _ (b : tie.After-slice-known3) where
+  abbrev start : tie.Start
+  start = b .before .before .before .before .before .before .before .before
 
--- The law's outcome.
-abbrev law : tie.After-judged → Outcome
-law k = claim diskTable (diskOf (disk (k .before .before .before .before))) (askedOf (k .before .before .before .before .args .q))
+  abbrev disk : Disk
+  disk = decode (start .args .part .now)
 
--- Nothing refuses.
-accepts : (c : tie.Else1) → shownBy (law (c .before .before .before)) .refusal ≡ 0
-accepts c = sym (ap (λ (j : Judgement). j .refusal) (c .before .before .before .judged .ensures)) ∙ c .if1 .left
+  abbrev law : Outcome
+  law = claim diskTable (diskOf disk) (requestOf (start .args .second) (start .args .c))
 
--- The claim is that of the next ticket.
-claim-is : (a : tie.After-asked) → a .asked .result ≡ asked (diskOf (disk (a .before .before .before .before .before .before .before .before .before .before))) (askedOf (a .before .before .before .before .before .before .before .before .before .before .args .q))
-unfolding decode
-claim-is a = a .asked .ensures ∙ ap (claimOf (askedOf (a .before .before .before .before .before .before .before .before .before .before .args .q))) (a .before .word-at .ensures)
+  abbrev own : Answer
+  own = b .before .before .before .before .judged .result
 
--- The branch of the decision.
-abbrev taken : tie.After-struct-known2 → tie.Else1
-taken c = c .before .before .before .before
+  says : {a : Answer} → own ≡ a → Says disk (start .args .second) (start .args .c) law a
+  says e =
+      answer-says disk (start .args .second) (start .args .c) (start .pre .1 .0) (disk-good (start .pre .0 .disk)) (start .pre .0 .sound) (sym e ∙ b .before .before .before .before .judged .ensures)
 
-code : (c : tie.After-struct-known2) → taken c .before .before .before .judged .result .own .code ≡ shownBy (law (taken c .before .before .before)) .own .code
-code c = ap (λ (j : Judgement). j .own .code) (taken c .before .before .before .judged .ensures)
+  -- The call ends with the answer in the buffer, and with the part q.
+  module _ {n : ℕ} {x : Answer} (code : n ≡ codeOf x) (same : x ≡ own) (q : List ℕ) where
+    abbrev Ends : Type 0
+    Ends = stepped n q (b .before .before .put-answer .last .0) ≡ written (settled (start .args .part .now) law)
 
-module _ (c : tie.Then2) where
-  abbrev k : tie.After-judged
-  k = taken (c .before) .before .before .before
+    refused-ends : IsRefused law → q ≡ start .args .part .now → Ends
+    refused-ends r e =
+        claim-refused (start .args .part .now) law (b .before .before .before .before .judged .ensures) (code ∙ ap codeOf same) (b .before .before .put-answer .ensures) (r .number) (r .is) e
 
-  abbrev d : Disk
-  d = disk (k .before .before .before .before)
+    accepted-ends : (d : LawDisk) (i : Item) → law ≡ accepted d (i ∷ []) → q ≡ partFor d → Ends
+    accepted-ends d i k e =
+        claim-accepted (start .args .part .now) law (b .before .before .before .before .judged .ensures) (code ∙ ap codeOf same) (b .before .before .put-answer .ensures) d i k e
 
-  abbrev q : LawAsked
-  q = askedOf (k .before .before .before .before .args .q)
+granted : (b : tie.After-slice-known3) {t m : ℕ} {z : ℤ} → own b ≡ A.Granted t z m →
+    IsGranted (disk b) (start b .args .second) (start b .args .c) z m (law b)
+granted b e = says b e
 
-  granted-outcome : law k ≡ accepted (grantedOf (diskOf d) (q .now) (asked (diskOf d) q)) (grantItem diskTable (at (diskOf d) (q .now)) (asked (diskOf d) q) ∷ [])
-  granted-outcome =
-      claim-granted (diskOf d) q (shown-passed (diskOf d) q (accepts (taken (c .before))))
-      (shown-granted (diskOf d) q (accepts (taken (c .before))) (sym (code (c .before)) ∙ c .if2 .taken))
+-- What is told fits 32 bits.
+told-back : (d : Disk) (c : Claim) {z : ℤ} → ToldFits d c → z ≡ toldBy (figuresIn d) (kindOf diskTable c) → toZ w32 (ofZ w32 z) ≡ z
+told-back d c {z} h e = toZ-ofZ (size-fits w32 z (omega (arith, ap size e, h)))
 
-  granted-takes : TakesGrant d (q .now) (asked (diskOf d) q) (k .judged .result .own .amount)
-  unfolding grantItem
-  granted-takes =
-      takes-grant d q (k .judged .result .own .amount) (good (k .before .before .before .before)) (k .before .before .before .before .pre .1 .1 .0)
-      (shown-passed (diskOf d) q (accepts (taken (c .before))))
-      (shown-granted (diskOf d) q (accepts (taken (c .before))) (sym (code (c .before)) ∙ c .if2 .taken))
-      (ap (λ (j : Judgement). j .own .amount) (k .judged .ensures ∙ ap shownBy granted-outcome))
+-- Of five variants the first two are Granted and Waits.
+not-least : (n : ℕ) → OneOf (2 ∷ 3 ∷ 4 ∷ []) n → n < 2 → ⊥
+not-least n k h = ⊎-elim (λ e. omega arith) (⊎-elim (λ e. omega arith) (λ e. omega arith)) k
 
-  -- It is told the law's sum.
-  abbrev own : Item
-  own = k .judged .result .own
+-- An answer that is neither a grant nor a wait refuses.
+refuses : (b : tie.After-slice-known3) (a : Answer) → own b ≡ a → OneOf (2 ∷ 3 ∷ 4 ∷ []) (tagOf the-type a) → IsRefused (law b)
+refuses b (A.Granted t z m) e k = absurd (not-least 0 k (omega arith))
+refuses b (A.Waits t) e k = absurd (not-least 1 k (omega arith))
+refuses b (A.Released t) e k = absurd (says b e)
+refuses b A.Opened e k = absurd (says b e)
+refuses b (A.Refused r) e k = says b e
 
-  pub told-law : own .told ≡ toldBy (figuresIn d) (kindOf diskTable (asked (diskOf d) q))
-  unfolding grantItem
-  told-law = ap (λ (j : Judgement). j .own .told) (k .judged .ensures ∙ ap shownBy granted-outcome)
-
-  pub told-back : toZ w32 (ofZ w32 (own .told)) ≡ own .told
-  told-back = toZ-ofZ (size-fits w32 (own .told) (omega (arith, ap size told-law, granted-takes .told)))
-
-  -- The answer shows the grant.
-  pub shows : {a : List ℕ} → a ≡ answerBytes (A.Granted (own .ticket) (toZ w32 (ofZ w32 (own .told))) (own .amount)) [] →
-      a ≡ answerBytes (answerOf (grantItem diskTable (at (diskOf d) (q .now)) (asked (diskOf d) q))) []
-  unfolding answerOf grantItem
-  shows e =
-      e
-      ∙ ap (λ (z : ℤ). answerBytes (A.Granted (own .ticket) z (own .amount)) []) told-back
-      ∙ ap (λ (j : Judgement). answerBytes (A.Granted (j .own .ticket) (j .own .told) (j .own .amount)) []) (k .judged .ensures ∙ ap shownBy granted-outcome)
+-- ---- the needs
 
 judged-requires : tie.Need-judged-requires
-judged-requires c κs = search needs
+judged-requires c κs =
+    let s = c .before .before .before in
+    (s .pre .0, (s .pre .1 .0, s .pre .1 .1 .1))
 
-refusal-of-requires : tie.Need-refusal-of-requires
-refusal-of-requires c κs = search needs
+put-answer-requires : tie.Need-put-answer-requires
+put-answer-requires c κs = search needs
 
-refuse-requires : tie.Need-refuse-requires
-refuse-requires c κs = c .before .before .before .before .before .before .before .before .before .pre .1 .1 .1 .0
+enum-known-a : tie.Need-enum-known-a
+enum-known-a c = search needs
+
+grant-new-requires : tie.Need-grant-new-requires
+grant-new-requires c κs =
+    let b = c .before .before .before .before in
+    let g = granted b (c .before .before .a .given .1) in
+    (start b .pre .0 .disk, (g .takes, told-back (disk b) (start b .args .c) (g .takes .told) (g .tells) ∙ g .tells))
+
+enum-told : tie.Need-enum-told
+enum-told c = search needs
+
+wait-requires : tie.Need-wait-requires
+wait-requires c κs =
+    let b = c .before .before .before in
+    let w : IsWaiting (disk b) (start b .args .second) (start b .args .c) (law b) = says b (c .before .enum-told .given .1) in
+    (start b .pre .0 .disk, (w .place, w .ticket))
+
+code-requires : tie.Need-code-requires
+code-requires c κs = search needs
 
 same-length : tie.Need-same-length
-same-length c = search needs
+same-length c =
+    ⊎-elim (λ w. search needs) (⊎-elim (λ w. search needs) (λ w. search needs)) (c .before .match .came)
 
 same-length-2 : tie.Need-same-length-2
 same-length-2 c = search needs
 
 returns : tie.Need-returns
 returns c =
-    let k = c .before .before .before .before .before .before .before .before in
-    let n = ap (λ (j : Judgement). j .refusal) (k .judged .ensures) in
-    let r = c .before .before .before .refusal-of .ensures in
-    let e = c .before .before .refuse .ensures in
-    step-refused _ (k .judged .result .refusal) (shown-refused (law k) (λ z. c .before .before .before .before .before .if1 .taken (n ∙ z)) ∙ ap refused (sym n))
-    (e .0 ∙ ap numberOf r) (e .1 ∙ ap (λ (x : Refusal). answerBytes (A.Refused x) []) r)
-
-word-at-requires : tie.Need-word-at-requires
-word-at-requires c κs = search needs
-
-asked-requires : tie.Need-asked-requires
-asked-requires c κs = search needs
-
-put-answer-requires : tie.Need-put-answer-requires
-put-answer-requires c κs = c .before .before .before .before .before .before .before .before .before .before .before .before .before .before .pre .1 .1 .1 .0
-
-grant-new-requires : tie.Need-grant-new-requires
-grant-new-requires c κs =
-    let t = c .before .before .before .before .before .before .before in
-    let s = c .before .before .before .before .before .before .before .before .before .before .before .before .before .before .before .before .before .before .before in
-    rw (claim-is (c .before .before .before .before .before .before .before .before .before)) (s .pre .0, (s .pre .1 .0, (granted-takes t, told-back t ∙ told-law t)))
-
-same-length-3 : tie.Need-same-length-3
-same-length-3 c = search needs
-
-same-length-4 : tie.Need-same-length-4
-same-length-4 c = search needs
-
-returns-2 : tie.Need-returns-2
-unfolding answerOf grantItem
-returns-2 c =
-    let t = c .before .before .before .before .before .before .before .before .before .before in
-    let i = grantItem diskTable (at (diskOf (d t)) (q t .now)) (asked (diskOf (d t)) (q t)) in
-    step-accepted _ (grantedOf (diskOf (d t)) (q t .now) (asked (diskOf (d t)) (q t))) i [] (granted-outcome t) refl
-    (c .before .before .grant-new .ensures ∙ ap (λ (x : Claim). partFor (grantedOf (diskOf (d t)) (q t .now) x)) (claim-is (c .before .before .before .before .before .before .before .before .before .before .before .before)))
-    (shows t (c .before .before .before .before .before .before .before .put-answer .ensures))
-
-put-answer-requires-2 : tie.Need-put-answer-requires-2
-put-answer-requires-2 c κs = c .before .before .before .before .before .before .before .before .before .before .before .before .before .pre .1 .1 .1 .0
-
-wait-requires : tie.Need-wait-requires
-wait-requires c κs =
-    let t = c .before .before .before .before .before in
-    let u = taken (t .before) in
-    let s = c .before .before .before .before .before .before .before .before .before .before .before .before .before .before .before .before .before in
-    let l = diskOf (disk s) in
-    let q = askedOf (s .args .q) in
-    let y : (shownBy (law (u .before .before .before)) .own .code ≡ 0 → ⊥) = λ e. t .if2 .left (code (t .before) ∙ e) in
-    rw (claim-is (c .before .before .before .before .before .before .before)) (
-      s .pre .0,
-      (s .pre .1 .0, (omega (arith, shown-place l q (accepts u) y, row-length (good s .waiting)), ticket-fits l q (shown-passed l q (accepts u)))),
-    )
-
-same-length-5 : tie.Need-same-length-5
-same-length-5 c = search needs
-
-same-length-6 : tie.Need-same-length-6
-same-length-6 c = search needs
-
-returns-3 : tie.Need-returns-3
-unfolding answerOf
-returns-3 c =
-    let t = c .before .before .before .before .before .before .before .before in
-    let u = taken (t .before) in
-    let s = c .before .before .before .before .before .before .before .before .before .before .before .before .before .before .before .before .before .before .before .before in
-    let l = diskOf (disk s) in
-    let q = askedOf (s .args .q) in
-    let y : (shownBy (law (u .before .before .before)) .own .code ≡ 0 → ⊥) = λ e. t .if2 .left (code (t .before) ∙ e) in
-    let o = claim-waits l q (shown-passed l q (accepts u)) (shown-later l q (accepts u) y) (shown-place l q (accepts u) y) in
-    step-accepted _ (waitingOf l (q .now) (asked l q)) (waitItem diskTable l q) [] o refl
-    (c .before .before .wait .ensures ∙ ap (λ (x : Claim). partFor (waitingOf l (q .now) x)) (claim-is (c .before .before .before .before .before .before .before .before .before .before)))
-    (c .before .before .before .before .before .before .put-answer2 .ensures
-    ∙ ap (λ (x : ℕ). answerBytes (A.Waits x) []) (ap (λ (j : Judgement). j .own .ticket) (u .before .before .before .judged .ensures ∙ ap shownBy o)))
+    let b = c .before .before in
+    let s = start b in
+    ⊎-elim
+    (λ w.
+    let g = granted b (w .1 .given .1) in
+    accepted-ends b (c .code .ensures) (w .8 ∙ sym (w .1 .given .1)) (c .before .match .part) (grantedOf (diskOf (disk b)) (s .args .second) (s .args .c)) (grantItem diskTable (coreAt (disk b) (s .args .second)) (s .args .c)) (g .is) (w .7 ∙ w .4 .ensures))
+    (⊎-elim
+    (λ w.
+    let g : IsWaiting (disk b) (s .args .second) (s .args .c) (law b) = says b (w .1 .given .1) in
+    accepted-ends b (c .code .ensures) (w .7) (c .before .match .part) (waitingOf (diskOf (disk b)) (s .args .second) (s .args .c)) (item 1 (s .args .c .ticket)) (g .is) (w .6 ∙ w .3 .ensures))
+    (λ w. refused-ends b (c .code .ensures) (w .2) (c .before .match .part) (refuses b (own b) refl (w .0 .keys3)) (w .1)))
+    (c .before .match .came)
 
 pub serve-claim-spec : {M : Type 1} → statement M
 serve-claim-spec =
     tie.close
     (tie.spec
     judged-requires
-    refusal-of-requires
-    refuse-requires
+    put-answer-requires
+    enum-known-a
+    grant-new-requires
+    enum-told
+    wait-requires
+    code-requires
     same-length
     same-length-2
-    returns
-    word-at-requires
-    asked-requires
-    put-answer-requires
-    grant-new-requires
-    same-length-3
-    same-length-4
-    returns-2
-    put-answer-requires-2
-    wait-requires
-    same-length-5
-    same-length-6
-    returns-3)
+    returns)

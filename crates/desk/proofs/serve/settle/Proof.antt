@@ -7,7 +7,8 @@ use Rattle.part.specs.Held.{held}
 use Rattle.answer.specs.declared.Answer.the-variants as A
 use Rattle.answer.specs.Answers.{answerBytes}
 use Rattle.pass.specs.Turns.{passedOf}
-use Rattle.desk.specs.Step.{answerOf, released}
+use Rattle.rules.specs.Answers.{answerOf}
+use Rattle.desk.specs.Step.{released}
 use Rattle.desk.proofs.ServeLaws.{step-accepted, pass-answers}
 use Rattle.desk.proofs.serve.settle.Statement.{statement}
 use Rattle.desk.proofs.serve.settle.Tie as tie
@@ -18,7 +19,7 @@ put-answer-requires c κs = search needs
 pass-requires : tie.Need-pass-requires
 pass-requires c κs =
     let k = c .before .before .before .before .before .before .before .before in
-    (k .pre .0, (k .pre .1 .0, (k .pre .1 .1 .0, (search needs, (record { own = A.Released (k .args .ticket); is = c .before .before .before .before .put-answer .ensures }, k .pre .1 .1 .1 .1)))))
+    (k .pre .0, (search needs, record { own = A.Released (k .args .ticket); is = c .before .before .before .before .put-answer .ensures }))
 
 same-length : tie.Need-same-length
 same-length c = search needs
