@@ -49,9 +49,6 @@ each R.NoTicket = (refl, refl, refl)
 each R.Full = (refl, refl, refl)
 each R.Ticket = (refl, refl, refl)
 
-pub number-refusal : (r : Refusal) → refusalOf (numberOf r) ≡ r
-number-refusal r = each r .0
-
 pub number-range : (r : Refusal) → (9 ≤ numberOf r) × (numberOf r ≤ 21)
 number-range r = (leb-true 9 (numberOf r) (each r .1), leb-true (numberOf r) 21 (each r .2))
 
@@ -158,7 +155,3 @@ pub item-code : (a : Answer) → wordAt (itemBytes a) 0 ≡ codeOf a
 unfolding itemBytes flat
 item-code a =
     word-le4 (codeOf a) (flat (ticketOf a ∷ wordOf (toldOf a) ∷ amountOf a ∷ [])) (omega (arith, code-most a))
-
--- Two answers with the same bytes have the same code.
-pub item-one : (a b : Answer) → itemBytes a ≡ itemBytes b → codeOf a ≡ codeOf b
-item-one a b e = sym (item-code a) ∙ (ap (λ (s : List ℕ). wordAt s 0) e ∙ item-code b)

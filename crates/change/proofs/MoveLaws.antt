@@ -2,7 +2,7 @@
 use Prim.Native.Nat.{ℕ, _+_, _-_, _^_, _≤_, _<_}
 use mathlib.Core.Bool.{Bool, true, false}
 use mathlib.Core.List.{List}
-use mathlib.Core.Path.{_≡_, refl, sym, ap, _∙_, subst}
+use mathlib.Core.Path.{_≡_, refl, sym, ap, subst}
 use native.Mathlib.Omega.{arith}
 use borrow.Rule.Slice.PartMut.{putMid}
 use lib.IntN.{ℤ, _+ℤ_}
@@ -14,7 +14,7 @@ use Rattle.num.specs.Word.{putWord}
 use Rattle.num.specs.Signed.{wordOf, putSigned}
 use Rattle.law.specs.declared.Attr.{Attr}
 use Rattle.law.specs.declared.Claim.{Claim}
-use Rattle.law.specs.Types.{Attribute, a0, a1, a2, Kind, sets, adds}
+use Rattle.law.specs.Types.{Attribute, a0, a1, a2, Kind, sets}
 use Rattle.law.specs.Entries.{kindAt}
 use Rattle.law.specs.Calls.{queue, landBy}
 use Rattle.law.specs.DiskType.{diskTable}

@@ -26,9 +26,6 @@ use Rattle.change.specs.Holding.{Holds, withFigures, withActive, withWai
 pub holds-decode : {s : List ℕ} {d : Disk} → Holds s d → decode s ≡ d
 holds-decode {s} {d} h = ap decode (h .is) ∙ decode-encode d (h .fits)
 
-pub holds-self : {s : List ℕ} {d : Disk} → Holds s d → Holds s (decode s)
-holds-self h = rw (holds-decode h) h
-
 -- A lent part that holds a disk holds the one that is read from it.
 pub disk-holds : {s : List ℕ} → HoldsDisk s → Bytes s → Holds s (decode s)
 disk-holds {s} h b = record { is = sym (encode-decode s b (h .long) (h .whole)); fits = decode-fits s b }

@@ -19,9 +19,6 @@ module _ (b : List ℕ) (d : ℕ) (whole : length b ≡ boardBytes) (known : d <
   front : length (take (partAt d) b) ≡ partAt d
   front = length-take-le (partAt d) b (omega (arith, whole, known))
 
-  pub length-part : length (partOf b d) ≡ partBytes
-  length-part = length-take-le partBytes (drop (partAt d) b) (omega (arith, whole, known, length-drop (partAt d) b))
-
   -- The part put back as it was.
   pub with-same : withPart b d (partOf b d) ≡ b
   with-same =

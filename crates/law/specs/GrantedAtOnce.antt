@@ -1,19 +1,18 @@
 -- Demand 3, second half, for one disk: no reader pays for another's limit. Under exactly the mission's conditions a reading is
 -- granted in its own call and is told the present sum, and its amount is the error that the figures carry.
-use Prim.Native.Nat.{ℕ, _+_, _≤_, _<_}
+use Prim.Native.Nat.{ℕ, _+_, _≤_}
 use mathlib.Core.Bool.{Bool, true, false, cond, not, _&&_}
 use mathlib.Core.List.{[], _∷_}
 use mathlib.Core.Path.{_≡_, refl, ap, _∙_}
 use native.Mathlib.Omega.{arith}
 use borrow.Author.Tests.{leb-true, le-leb, lt-leb, lt-ltb, le-ltb, eq-eqb, eqb-false}
 use lib.Dec.{leb, ltb, eqb}
-use lib.IntN.{pos}
 use lib.ListN.{length}
 use Rattle.num.specs.Metric.{size, dist}
 use Rattle.law.specs.declared.Claim.{Claim}
 use Rattle.law.specs.declared.Entry.{Entry}
 use Rattle.law.specs.declared.Entry.the-variants.{A, N, G}
-use Rattle.law.specs.Base.{allTrue, everyOf, anyOf, All}
+use Rattle.law.specs.Base.{allTrue, everyOf, anyOf}
 use Rattle.law.specs.Lists.{all-say, all-passed, every-tests, none-tests, sum-zero}
 use Rattle.law.specs.Types.{mostError, places, lastTicket, Attribute, a0, a1, a2, metric, within, Kind, sets, adds, reads, Table, attr, Core, Disk, Asked, Item, accepted}
 use Rattle.law.specs.Granting.{costBy, raisesBy, limitBy, toldBy, carriedBy, fresh, addable, bearable, ranged, preconditions, limit, gap, cost, total, stays, lockStep, bars, grantTests, granted, grantItem}
@@ -21,8 +20,8 @@ use Rattle.law.specs.GrantLaws.{start-reads}
 use Rattle.law.specs.Calls.{fieldTests, ownFits, asked, at, grantedAtOnce, refusals, withGrant, decidedBy, decided, claim}
 use Rattle.law.specs.Events.{NoneHolds}
 use Rattle.law.specs.Refusals.{accepted-otherwise}
-use Rattle.law.specs.Entries.{entryBy, isAlways, isNever, kindAt, kindOf, entry}
-use Rattle.law.specs.Readings.{everyRead, present, carried}
+use Rattle.law.specs.Entries.{entryBy, isAlways, isNever, kindOf, entry}
+use Rattle.law.specs.Readings.{everyRead, carried}
 use Rattle.law.specs.Conditions.{writesWhat, Reading, Free, readingItem}
 
 -- ---- a claim that writes nothing the reading reads has entry A with it

@@ -4,7 +4,6 @@ use mathlib.Core.List.{List, [], _∷_, _++_, append-assoc, append-nil}
 use mathlib.Core.Path.{_≡_, refl, sym, ap, _∙_}
 use native.Mathlib.Numerals.{add-one}
 use native.Mathlib.Omega.{arith}
-use borrow.Rule.Slice.PartMut.{putMid, post-is}
 use lib.ListN.{length, take, drop, set, length-append, length-set, drop-of-length-le}
 use lib.Seq.{sets, sets-eq, length-sets, set-append-left}
 use Rattle.num.specs.Word.{wordAt, putWord}
@@ -79,14 +78,6 @@ splice-whole l vs h =
     splice-eq l 0 vs (omega arith)
     ∙ ap (λ (r : List ℕ). vs ++ r) (drop-of-length-le l {i = 0 + length vs} (omega arith))
     ∙ append-nil vs
-
--- Lending a part that comes back with other bytes is putting these bytes there.
-pub mid-splice : (a e : ℕ) (xs ys : List ℕ) → a ≤ e → e ≤ length xs → length ys ≡ e - a →
-    putMid a (e - a) xs ys ≡ splice xs a ys
-mid-splice a e xs ys h g k =
-    let w : a + length ys ≡ e = omega arith in
-    ap (λ (r : List ℕ). take a xs ++ (ys ++ r)) (post-is a e xs h ∙ ap (λ (n : ℕ). drop n xs) (sym w))
-    ∙ sym (splice-eq xs a ys (omega arith))
 
 -- ---- runs put into a list of two pieces
 

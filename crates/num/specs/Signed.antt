@@ -1,15 +1,13 @@
 -- Signed words: a figure in four bytes, in two's complement, with its laws.
-use Prim.Native.Nat.{ℕ, _+_, _^_, _≤_, _<_}
+use Prim.Native.Nat.{ℕ, _^_, _<_}
 use mathlib.Core.List.{List}
-use mathlib.Core.Path.{_≡_, ap, _∙_}
+use mathlib.Core.Path.{_≡_}
 use lib.IntN.{ℤ}
-use lib.ListN.{length}
 use lib.Signed.{mag}
 use mir.Syntax.{w32}
 use mir.Val.{toZ, ofZ}
 use mir.ValLaws.{toZ-ofZ, ofZ-toZ, toZ-fits, ofZ-fits}
 use Rattle.num.specs.Word.{wordAt, putWord}
-use Rattle.num.specs.WordLaws.{word-put-same}
 
 -- The figure that a word stands for.
 unfoldable pub signedOf : ℕ → ℤ
@@ -43,8 +41,3 @@ word-fits z h = ofZ-fits w32 z (record { sfits = h }) .fits
 pub signed-fits : (x : ℕ) → x < 2 ^ 32 → mag (signedOf x) < 2 ^ 31
 unfolding signedOf
 signed-fits x h = toZ-fits w32 x (record { fits = h }) .sfits
-
--- The figure that was put is read back.
-pub signed-put-same : (s : List ℕ) (at : ℕ) (z : ℤ) → at + 4 ≤ length s → mag z < 2 ^ 31 →
-    signedAt (putSigned s at z) at ≡ z
-signed-put-same s at z h fits = ap signedOf (word-put-same s at (wordOf z) h (word-fits z fits)) ∙ signed-word z fits

@@ -3,10 +3,9 @@ use Prim.Native.Nat.{ℕ, zero, suc, _+_, _*_, _/_, _%_, _^_, _≤_, _<_}
 use mathlib.Core.List.{List, [], _∷_}
 use mathlib.Core.Logic.{_⊎_, inl, inr, _≢_}
 use mathlib.Core.Path.{_≡_}
-use native.Mathlib.Nat.{mod-eq-of-lt}
 use native.Mathlib.Omega.{arith}
 use lib.ListN.{length, getD, set, length-set}
-use lib.Seq.{getD-set-same, getD-set-other, set-getD}
+use lib.Seq.{getD-set-same, getD-set-other}
 use Rattle.num.specs.Word.{word4, wordAt, putWord, Bytes}
 
 -- A number below 2 ^ 32 is the word of its four bytes.
@@ -34,10 +33,6 @@ word-same s t at h =
     )
 
 module _ (s : List ℕ) (at x : ℕ) where
-  pub length-put : length (putWord s at x) ≡ length s
-  unfolding putWord
-  length-put = simp length-set
-
   -- A byte at none of the four indices is as it was.
   other : (k : ℕ) → k ≢ at → k ≢ at + 1 → k ≢ at + 2 → k ≢ at + 3 → getD (putWord s at x) k 0 ≡ getD s k 0
   unfolding putWord
@@ -72,16 +67,6 @@ module _ (s : List ℕ) (at x : ℕ) where
       let n23 : at + 2 ≢ at + 3 = λ e. omega arith in
       simp (getD-set-other, getD-set-same) (bytes-word x fits)
 
--- Putting the word that is there already changes nothing.
-pub put-word-back : (s : List ℕ) (at : ℕ) → Bytes s → putWord s at (wordAt s at) ≡ s
-unfolding wordAt putWord
-put-word-back s at b =
-    let h0 = b at in
-    let h1 = b (at + 1) in
-    let h2 = b (at + 2) in
-    let h3 = b (at + 3) in
-    simp (low, high, mod-eq-of-lt, set-getD)
-
 -- A word is below 2 ^ 32.
 pub word-at-fits : (s : List ℕ) (at : ℕ) → Bytes s → wordAt s at < 2 ^ 32
 unfolding wordAt
@@ -97,14 +82,3 @@ set-bytes (a ∷ s) (suc i) v b h (suc k) = set-bytes s i v (λ j. b (suc j)) h 
 
 byte : (x : ℕ) → x % 256 < 256
 byte x = omega arith
-
-pub put-bytes : (s : List ℕ) (at x : ℕ) → Bytes s → Bytes (putWord s at x)
-unfolding putWord
-put-bytes s at x b =
-    let s1 = set s at (x % 256) in
-    let s2 = set s1 (at + 1) (x / 256 % 256) in
-    let s3 = set s2 (at + 2) (x / 256 / 256 % 256) in
-    let b1 = set-bytes s at _ b (byte x) in
-    let b2 = set-bytes s1 (at + 1) _ b1 (byte (x / 256)) in
-    let b3 = set-bytes s2 (at + 2) _ b2 (byte (x / 256 / 256)) in
-    set-bytes s3 (at + 3) _ b3 (byte (x / 256 / 256 / 256))

@@ -6,7 +6,6 @@ use mathlib.Core.Logic.{_≢_}
 use mathlib.Core.Path.{_≡_, refl, ap, _∙_}
 use native.Mathlib.Omega.{arith}
 use borrow.Author.Tests.{lt-leb, le-leb}
-use Rattle.num.specs.Runs.{allZero}
 use Rattle.part.specs.Layout.{zeroAt, spareZero, slotsWhole}
 use Rattle.part.specs.ByteLaws.{zero-split}
 
@@ -34,11 +33,6 @@ module _ (s : List ℕ) (at : ℕ) where
   no-claim e end =
       let first : at ≡ at + 44 * 0 = omega arith in
       ap (λ (p : ℕ). zeroAt s p (e - p)) first ∙ n-claims 0 e (omega arith) end
-
-  -- Where each does, no range is left.
-  pub all-claims : spareZero s at 8 ≡ slotsWhole s at 8
-  unfolding slotsWhole allZero
-  all-claims = rw and-true
 
   -- There are no more than eight.
   pub too-many : (n : ℕ) → 8 < n → false ≡ slotsWhole s at n

@@ -308,14 +308,3 @@ put-head-word ws active waiting i x h =
     put-splice (partWith ws active waiting) (4 * i) x
     ∙ splice-first (flat ws) (inSlots active ++ inSlots waiting) (4 * i) (le4 x) (omega (arith, length-flat ws, length-le4 x))
     ∙ ap (λ (r : List ℕ). r ++ (inSlots active ++ inSlots waiting)) (put-in-words ws i x h)
-
-pub put-active : (ws : List ℕ) (active waiting new : List Claim) → length ws ≡ 16 → length active ≡ length new →
-    splice (partWith ws active waiting) 64 (inSlots new) ≡ partWith ws new waiting
-put-active ws active waiting new n e =
-    let k : 64 ≡ length (flat ws) + 0 = omega (arith, length-flat ws, n) in
-    ap (λ (j : ℕ). splice (partWith ws active waiting) j (inSlots new)) k
-    ∙ splice-second (flat ws) (inSlots active ++ inSlots waiting) 0 (inSlots new)
-    ∙ ap (λ (r : List ℕ). flat ws ++ r)
-    (splice-first (inSlots active) (inSlots waiting) 0 (inSlots new) (omega (arith, length-in-slots active, length-in-slots new, e))
-    ∙ ap (λ (r : List ℕ). r ++ inSlots waiting)
-    (splice-whole (inSlots active) (inSlots new) (omega (arith, length-in-slots active, length-in-slots new, e))))

@@ -8,7 +8,7 @@ use native.Mathlib.Numerals.{add-one}
 use native.Mathlib.Omega.{arith}
 use lib.Dec.{leb}
 use lib.ListN.{length, take, drop, getD, set, replicate, length-append, length-drop}
-use lib.Seq.{drop-cons, drop-drop, take-suc, take-suc-set, length-take-le, take-at, drop-at, take-all, take-add, getD-take, getD-drop}
+use lib.Seq.{drop-cons, drop-drop, take-suc, length-take-le, take-at, drop-at, take-all, take-add, getD-take, getD-drop}
 use borrow.Author.Tests.{le-leb}
 use Rattle.num.specs.Word.{wordAt, Bytes}
 use Rattle.num.specs.WordLaws.{word-at-fits}
@@ -59,12 +59,6 @@ unfolding inSlots
 in-slots-one c = append-nil (flat (claimWords c))
 
 -- ---- a turn of a loop
-
--- The claim of the next slot, stored behind those read.
-pub read-slot : (s : List ℕ) (at i : ℕ) (out : List Claim) → i < length out → take i out ≡ slots i (drop at s) →
-    take (i + 1) (set out i (claimIn (take 44 (drop (at + 44 * i) s)))) ≡ slots (i + 1) (drop at s)
-read-slot s at i out h e =
-    rw (add-one i, take-suc-set out i (claimIn (take 44 (drop (at + 44 * i) s))) h, e, slots-more i (drop at s), drop-drop (44 * i) at s)
 
 -- The next word, put behind those that stand.
 pub put-more : (s : List ℕ) (at j : ℕ) (xs : List ℕ) → j < length xs →

@@ -16,6 +16,7 @@ use Rattle.law.specs.Entries.{kindAt}
 use Rattle.law.specs.Granting.{gapBy, toldBy, carriedBy}
 use Rattle.law.specs.DiskType.{diskTable}
 use Rattle.rules.specs.Methods.{setsBy, addsBy, readsBy, writesBy, setMask, addMask, readMask, writeMask, isReading, isAdd, setsState, writtenBy}
+use Rattle.rules.specs.Masks.{masksBy, masksOf}
 
 -- ---- by method
 
@@ -36,29 +37,16 @@ method-cases P p0 p1 p2 p3 p4 p5 p6 more (suc (suc (suc (suc (suc (suc zero)))))
 method-cases P p0 p1 p2 p3 p4 p5 p6 more (suc (suc (suc (suc (suc (suc (suc m))))))) =
     more (suc (suc (suc (suc (suc (suc (suc m))))))) (omega arith)
 
--- Any other method than these reads nothing, sets nothing, adds nothing.
-pub read-none : (m : ℕ) → (m ≡ 4 → ⊥) → (m ≡ 5 → ⊥) → (m ≡ 6 → ⊥) → 0 ≡ readMask m
-unfolding readMask diskTable
-read-none =
-    method-cases (λ m. (m ≡ 4 → ⊥) → (m ≡ 5 → ⊥) → (m ≡ 6 → ⊥) → 0 ≡ readMask m)
-    (λ x y z. refl) (λ x y z. refl) (λ x y z. refl) (λ x y z. refl)
-    (λ x y z. absurd (x refl)) (λ x y z. absurd (y refl)) (λ x y z. absurd (z refl))
-    (λ m h x y z. rw (method-past m h))
-
-pub set-none : (m : ℕ) → (m ≡ 0 → ⊥) → (m ≡ 2 → ⊥) → (m ≡ 3 → ⊥) → 0 ≡ setMask m
-unfolding setMask diskTable
-set-none =
-    method-cases (λ m. (m ≡ 0 → ⊥) → (m ≡ 2 → ⊥) → (m ≡ 3 → ⊥) → 0 ≡ setMask m)
-    (λ x y z. absurd (x refl)) (λ x y z. refl) (λ x y z. absurd (y refl)) (λ x y z. absurd (z refl))
-    (λ x y z. refl) (λ x y z. refl) (λ x y z. refl)
-    (λ m h x y z. rw (method-past m h))
-
-pub add-none : (m : ℕ) → (m ≡ 1 → ⊥) → 0 ≡ addMask m
-unfolding addMask diskTable
-add-none =
-    method-cases (λ m. (m ≡ 1 → ⊥) → 0 ≡ addMask m)
-    (λ x. refl) (λ x. absurd (x refl)) (λ x. refl) (λ x. refl) (λ x. refl) (λ x. refl) (λ x. refl)
-    (λ m h x. rw (method-past m h))
+-- Any other number than the seven is an unknown method, and does nothing.
+pub unknown : (m : ℕ) → (m ≡ 0 → ⊥) → (m ≡ 1 → ⊥) → (m ≡ 2 → ⊥) → (m ≡ 3 → ⊥) → (m ≡ 4 → ⊥) → (m ≡ 5 → ⊥) → (m ≡ 6 → ⊥) →
+    masksBy 0 0 0 ≡ masksOf m
+unfolding masksOf setMask addMask readMask
+unknown =
+    method-cases
+    (λ m. (m ≡ 0 → ⊥) → (m ≡ 1 → ⊥) → (m ≡ 2 → ⊥) → (m ≡ 3 → ⊥) → (m ≡ 4 → ⊥) → (m ≡ 5 → ⊥) → (m ≡ 6 → ⊥) → masksBy 0 0 0 ≡ masksOf m)
+    (λ p q r s t u v. absurd (p refl)) (λ p q r s t u v. absurd (q refl)) (λ p q r s t u v. absurd (r refl)) (λ p q r s t u v. absurd (s refl))
+    (λ p q r s t u v. absurd (t refl)) (λ p q r s t u v. absurd (u refl)) (λ p q r s t u v. absurd (v refl))
+    (λ m h p q r s t u v. rw (method-past m h))
 
 -- What a method writes is what it sets and what it adds to.
 write-by : (k : Kind) → bitOr (setsBy k) (addsBy k) ≡ writesBy k

@@ -2,6 +2,7 @@ pub mod Rows
 pub mod PlaceLaws
 pub mod RowLaws
 pub mod Methods
+pub mod Masks
 pub mod Pairs
 pub mod Totals
 pub mod Disks

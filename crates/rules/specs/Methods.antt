@@ -8,7 +8,7 @@ use Rattle.num.specs.Metric.{size}
 use Rattle.law.specs.declared.Attr.{Attr}
 use Rattle.law.specs.declared.Claim.{Claim}
 use Rattle.law.specs.Base.{allTrue}
-use Rattle.law.specs.Types.{mostValue, mostError, Attribute, a0, a1, a2, Kind, sets, adds, reads, Figures, attr, Core}
+use Rattle.law.specs.Types.{mostValue, mostError, mostState, mostFlag, Attribute, a0, a1, a2, Kind, sets, adds, reads, Figures, attr, Core}
 use Rattle.law.specs.Entries.{kindAt}
 use Rattle.law.specs.Granting.{fresh, addable, bearable}
 use Rattle.law.specs.DiskType.{diskTable}
@@ -59,10 +59,15 @@ writeMask m = writesBy (kindAt diskTable m)
 unfoldable pub indexOf : ℕ → ℕ
 indexOf m = cond (ltb m 7) m 0
 
--- How large the error of each method may be, by the limits of used and promised: a write's own error is within the limit of what it
--- writes, which is 0 for the state; a reading's is its stated limit.
-abbrev pub mostErrors : ℕ → ℕ → List ℕ
-mostErrors used promised = used ∷ promised ∷ promised ∷ 0 ∷ mostError ∷ mostError ∷ mostError ∷ []
+-- How large the fields of a claim may be, by the limits of used and promised and the clock: for each field a row of seven, by method.
+-- Its value; its error; its second of measuring; its flag; what it was told.
+abbrev pub boundsOf : ℕ → ℕ → ℕ → List ℕ
+boundsOf used promised clock =
+    mostValue ∷ mostValue ∷ mostValue ∷ mostState ∷ 0 ∷ 0 ∷ 0
+    ∷ used ∷ promised ∷ promised ∷ 0 ∷ mostError ∷ mostError ∷ mostError
+    ∷ clock ∷ clock ∷ clock ∷ clock ∷ 0 ∷ 0 ∷ 0
+    ∷ 0 ∷ 0 ∷ 0 ∷ 0 ∷ mostFlag ∷ mostFlag ∷ mostFlag
+    ∷ 0 ∷ 0 ∷ 0 ∷ 0 ∷ mostError ∷ mostError ∷ mostError ∷ []
 
 -- ---- the kinds that a test tells apart
 

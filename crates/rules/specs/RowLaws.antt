@@ -6,12 +6,11 @@ use mathlib.Core.Path.{_≡_, refl, ap, _∙_}
 use native.Mathlib.Numerals.{add-one}
 use native.Mathlib.Omega.{arith}
 use lib.Dec.{ltb}
-use lib.ListN.{length, take, drop, getD, set, length-set, drop-of-length-le, replicate}
+use lib.ListN.{length, take, drop, getD, set, length-set, drop-of-length-le}
 use lib.Seq.{length-take-le, drop-cons, getD-take, getD-set-same, getD-set-other, take-suc-set, take-set-lt, take-set-le, drop-set-lt, take-take}
 use borrow.Author.Tests.{ltb-true, ltb-false}
 use Rattle.law.specs.declared.Claim.{Claim}
 use Rattle.law.specs.Base.{everyOf, sumOf}
-use Rattle.law.specs.Lists.{getD-filled}
 use Rattle.rules.specs.Rows.{noClaim, Row, RowIs, firstOf, removeAt, insertAt}
 use Rattle.rules.specs.PlaceLaws.{remove-step, remove-last, insert-step, insert-last}
 
@@ -131,7 +130,3 @@ module _ {a : List Claim} {n : ℕ} (r : Row a n) where
 
   pub insert-end : (i : ℕ) (y : Claim) → n ≤ i → insertAt i y (take n a) ≡ take n a ++ (y ∷ [])
   insert-end i y h = insert-last (take n a) i y (omega (arith, row-length))
-
--- Eight clear places hold no claim.
-pub row-none : RowIs (replicate 8 noClaim) 0 []
-row-none = record { row = record { room = refl; few = omega arith; clear = λ k h. getD-filled 8 k noClaim }; list = refl }

@@ -7,13 +7,17 @@ ghost use lib.Dec.{ltb};
 ghost use Rattle.law.specs.Entries.{entryBy, kindAt};
 ghost use Rattle.law.specs.DiskType.{diskTable};
 ghost use Rattle.law.specs.TableLaws.{entryAt};
-ghost use Rattle.rules.specs.Methods.{setMask, addMask, readMask, writeMask, isReading, isAdd, setsState, mostErrors, indexOf};
+ghost use Rattle.rules.specs.Methods.{setMask, addMask, readMask, writeMask, isReading, isAdd, setsState, boundsOf, indexOf};
+ghost use Rattle.rules.specs.Masks.{wordOf, masksBy, masksOf};
 use law::Entry;
 use law::Entry::A;
 use law::Entry::D;
 use law::Entry::G;
 use law::Entry::N;
 use law::limits::MOST_ERROR;
+use law::limits::MOST_FLAG;
+use law::limits::MOST_STATE;
+use law::limits::MOST_VALUE;
 
 // 0 ReportUsed, 1 AddPromised, 2 SetPromised, 3 SetState, 4 ReadUsed, 5 ReadLoad, 6 ReadState.
 const METHODS: u32 = 7;
@@ -59,39 +63,77 @@ pub fn is_known(m: u32) -> bool
     m < METHODS
 }
 
-// The mask of what a method sets, of what it adds to, and of what it reads. An unknown method does nothing.
+// What a method does: the masks of what it sets, of what it adds to and of what it reads. And three words of such masks, each with what
+// is set in bits 0 to 2, what is added to in bits 3 to 5 and what is read in bits 6 to 8: what the method does; what another claim does
+// that has an entry other than A with it; and what one does that has entry N with it.
+pub struct Masks {
+    pub sets: u8,
+    pub adds: u8,
+    pub reads: u8,
+    pub does: u32,
+    pub say: u32,
+    pub out: u32,
+}
+
+// Three masks in one word.
+fn word(sets: u8, adds: u8, reads: u8) -> u32
+    ensures { λ r. ⌜ r ≡ wordOf sets adds reads ⌝ }
+{
+    sets as u32 + 8 * adds as u32 + 64 * reads as u32
+}
+
+// The masks of a method that sets, adds to and reads these. A claim has a say on it if it sets what the method touches, adds to what
+// the method sets or reads, or reads what the method writes: two adds have no say on each other, nor have two readings. And it keeps
+// the method out if of the two one adds to what the other sets; or if both touch the state, and one sets it.
+fn doing(sets: u8, adds: u8, reads: u8) -> Masks
+    ensures { λ r. ⌜ r ≡ masksBy sets adds reads ⌝ }
+{
+    Masks {
+        sets,
+        adds,
+        reads,
+        does: word(sets, adds, reads),
+        say: word(sets | adds | reads, sets | reads, sets | adds),
+        out: word(adds | STATE & (sets | reads), sets, STATE & sets),
+    }
+}
+
+// The masks of a method. An unknown method does nothing. What depends on the masks alone is computed by the compiler, which makes a
+// table of it.
+pub fn masks_of(m: u32) -> Masks
+    ensures { λ r. ⌜ r ≡ masksOf m ⌝ }
+{
+    match m {
+        REPORT_USED => doing(USED, 0, 0),
+        ADD_PROMISED => doing(0, PROMISED, 0),
+        SET_PROMISED => doing(PROMISED, 0, 0),
+        SET_STATE => doing(STATE, 0, 0),
+        READ_USED => doing(0, 0, USED),
+        READ_LOAD => doing(0, 0, LOAD),
+        READ_STATE => doing(0, 0, STATE),
+        _ => doing(0, 0, 0),
+    }
+}
+
+// The mask of what a method sets, of what it adds to, of what it reads, and of what it writes, by setting it or adding to it.
 pub fn sets(m: u32) -> u8
     ensures { λ r. ⌜ r ≡ setMask m ⌝ }
 {
-    match m {
-        REPORT_USED => USED,
-        SET_PROMISED => PROMISED,
-        SET_STATE => STATE,
-        _ => 0,
-    }
+    masks_of(m).sets
 }
 
 pub fn adds(m: u32) -> u8
     ensures { λ r. ⌜ r ≡ addMask m ⌝ }
 {
-    match m {
-        ADD_PROMISED => PROMISED,
-        _ => 0,
-    }
+    masks_of(m).adds
 }
 
 pub fn reads(m: u32) -> u8
     ensures { λ r. ⌜ r ≡ readMask m ⌝ }
 {
-    match m {
-        READ_USED => USED,
-        READ_LOAD => LOAD,
-        READ_STATE => STATE,
-        _ => 0,
-    }
+    masks_of(m).reads
 }
 
-// The mask of what a method writes, by setting it or adding to it.
 pub fn writes(m: u32) -> u8
     ensures { λ r. ⌜ r ≡ writeMask m ⌝ }
 {
@@ -119,15 +161,53 @@ pub fn sets_state(m: u32) -> bool
     m == SET_STATE
 }
 
-// How large the error of each method may be, a row by method: a write's own error is within the limit of what it writes, which is 0
-// for the state; a reading's is its stated limit.
-pub fn most_errors(used: u32, promised: u32) -> [u32; 7]
-    ensures { λ r. ⌜ r ≡ mostErrors used promised ⌝ }
+// How large the fields of a claim may be: for each field a row of seven, by method. The values come first, then these.
+pub const ERRORS_AT: usize = 7;
+
+pub const MEASURED_AT: usize = 14;
+
+pub const FLAGS_AT: usize = 21;
+
+pub const TOLD_AT: usize = 28;
+
+// A state is at most 255, any other value 1,000,000,000, and a reading has none. A write's own error is within the limit of what it
+// writes, which is 0 for the state; a reading's is its stated limit. A write is not measured after the clock, and a reading not at all.
+// Only a reading may ask for fresh figures, and only a reading is told something.
+pub fn bounds(used: u32, promised: u32, clock: u32) -> [u32; 35]
+    ensures { λ r. ⌜ r ≡ boundsOf used promised clock ⌝ }
 {
     [
+        MOST_VALUE,
+        MOST_VALUE,
+        MOST_VALUE,
+        MOST_STATE,
+        0,
+        0,
+        0,
         used,
         promised,
         promised,
+        0,
+        MOST_ERROR,
+        MOST_ERROR,
+        MOST_ERROR,
+        clock,
+        clock,
+        clock,
+        clock,
+        0,
+        0,
+        0,
+        0,
+        0,
+        0,
+        0,
+        MOST_FLAG,
+        MOST_FLAG,
+        MOST_FLAG,
+        0,
+        0,
+        0,
         0,
         MOST_ERROR,
         MOST_ERROR,

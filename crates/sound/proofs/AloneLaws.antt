@@ -1,6 +1,6 @@
 -- Laws of a claim by itself: where the figures fit, what the code compares with the most that a claim's method may have are the
 -- law's tests of it.
-use Prim.Native.Nat.{ℕ, _^_, _≤_, _<_}
+use Prim.Native.Nat.{ℕ, _+_, _^_, _≤_, _<_}
 use mathlib.Core.Bool.{Bool, true, false, cond, not, _&&_, _||_, and-true, and-comm}
 use mathlib.Core.List.{List, [], _∷_, map}
 use mathlib.Core.Path.{_≡_, refl, sym, ap, _∙_}
@@ -23,10 +23,10 @@ use Rattle.law.specs.Calls.{isCode, valueFits, fieldTests, ownFits}
 use Rattle.law.specs.Sound.{bare, bareBy, readingBy, limitFits}
 use Rattle.law.specs.DiskType.{diskTable}
 use Rattle.law.specs.TableLaws.{disk-methods}
-use Rattle.rules.specs.Methods.{mostErrors}
+use Rattle.rules.specs.Methods.{boundsOf}
 use Rattle.rules.specs.Pairs.{addOf}
 use Rattle.rules.proofs.MethodLaws.{method-cases}
-use Rattle.sound.specs.Tests.{figureTests, figureFits, figuresTests, figuresFit, activeRow, activeFits, waitingFits, ifReading, mostValueBy, valueSizeBy, valueIn, aloneTests, aloneFits, activeBy, waitingBy}
+use Rattle.sound.specs.Tests.{figureTests, figureFits, figuresTests, figuresFit, activeRow, activeFits, waitingFits, Bounds, ifReading, mostValueBy, valueSizeBy, valueIn, aloneTests, aloneFits, activeBy, waitingBy}
 use Rattle.sound.proofs.WalkLaws.{same-test}
 
 -- ---- tests that are the same
@@ -186,20 +186,21 @@ module _ (f : Figures) (now next : ℕ) (h : figuresFit f now next ≡ true) whe
   limit-in a1 = leb-true (f .f1 .limit) mostError (limit-fits a1)
   limit-in a2 = omega (arith, none-of-state)
 
-  -- The row; the most error by kind, which the row has at the method.
+  -- The rows; the most error by kind, which its row has at the method.
   abbrev most : List ℕ
-  most = mostErrors (f .f0 .limit) (f .f1 .limit)
+  most = boundsOf (f .f0 .limit) (f .f1 .limit) now
 
   abbrev mostBy : Kind → ℕ
   mostBy (sets a) = attr f a .limit
   mostBy (adds a) = attr f a .limit
   mostBy (reads m) = mostError
 
-  most-at : (m : ℕ) → m < 7 → getD most m 0 ≡ mostBy (kindAt diskTable m)
+  rows-at : (m : ℕ) → m < 7 → (getD most (7 + m) 0 ≡ mostBy (kindAt diskTable m)) × (getD most (14 + m) 0 ≡ ifReading (kindAt diskTable m) 0 now)
   unfolding diskTable
-  most-at =
-      method-cases (λ m. m < 7 → getD most m 0 ≡ mostBy (kindAt diskTable m))
-      (λ k. refl) (λ k. refl) (λ k. refl) (λ k. sym none-of-state) (λ k. refl) (λ k. refl) (λ k. refl) (λ m l k. absurd (omega arith))
+  rows-at =
+      method-cases (λ m. m < 7 → (getD most (7 + m) 0 ≡ mostBy (kindAt diskTable m)) × (getD most (14 + m) 0 ≡ ifReading (kindAt diskTable m) 0 now))
+      (λ k. (refl, refl)) (λ k. (refl, refl)) (λ k. (refl, refl)) (λ k. (sym none-of-state, refl))
+      (λ k. (refl, refl)) (λ k. (refl, refl)) (λ k. (refl, refl)) (λ m l k. absurd (omega arith))
 
   module _ (c : Claim) where
     abbrev kind : Kind
@@ -209,25 +210,24 @@ module _ (f : Figures) (now next : ℕ) (h : figuresFit f now next ≡ true) whe
     abbrev lawful : Kind → Bool
     lawful k = allTrue (theirs now next c (fieldTests now k c) (ownFits f k (c .error)))
 
-    kind-is : (k : Kind) → allTrue (aloneTests (mostBy k) now next k c) ≡ lawful k
+    kind-is : (k : Kind) → allTrue (aloneTests (mostBy k) (ifReading k 0 now) next k c) ≡ lawful k
     kind-is (sets a) = write-is now next c (valueFits a (c .value)) (attr f a .limit) (limit-in a)
     kind-is (adds a) = write-is now next c (leb (size (c .value)) mostValue) (attr f a .limit) (limit-in a)
     kind-is (reads m) = read-is now next c (eqb (size (c .value)) 0)
 
-    -- An unknown method fails, whatever its error may be.
-    row-is : allTrue (aloneTests (getD most (c .method) 0) now next kind c) ≡ allTrue (aloneTests (mostBy kind) now next kind c)
+    -- An unknown method fails, whatever its error and its second of measuring may be.
+    row-is : aloneFits most next c ≡ allTrue (aloneTests (mostBy kind) (ifReading kind 0 now) next kind c)
+    unfolding aloneFits
     row-is = by (ltb (c .method) 7) refl
       where
-        by : (b : Bool) → ltb (c .method) 7 ≡ b →
-            allTrue (aloneTests (getD most (c .method) 0) now next kind c) ≡ allTrue (aloneTests (mostBy kind) now next kind c)
-        by true e = rw (most-at (c .method) (ltb-true (c .method) 7 e))
+        by : (b : Bool) → ltb (c .method) 7 ≡ b → aloneFits most next c ≡ allTrue (aloneTests (mostBy kind) (ifReading kind 0 now) next kind c)
+        by true e = let r = rows-at (c .method) (ltb-true (c .method) 7 e) in rw (r .0, r .1)
         by false e = rw e
 
-    alone-is : aloneFits most now next c ≡ lawful kind
-    unfolding aloneFits
+    alone-is : aloneFits most next c ≡ lawful kind
     alone-is = row-is ∙ kind-is kind
 
-    pub active-is : activeBy most now next c ≡ activeFits f now next c
+    pub active-is : activeBy most next c ≡ activeFits f now next c
     unfolding activeBy activeFits
     active-is = (λ i. alone-is i && told-is now next c kind i) ∙ and-comm (lawful kind) (allTrue (bareBy kind c ∷ readingBy kind c ∷ [])) ∙ last (bareBy kind c)
       where
@@ -235,9 +235,32 @@ module _ (f : Figures) (now next : ℕ) (h : figuresFit f now next ≡ true) whe
         last true = ap (λ (r : Bool). r && lawful kind) (and-true (readingBy kind c))
         last false = refl
 
-    pub waiting-is : waitingBy most now next c ≡ waitingFits f now next c
+    pub waiting-is : waitingBy most next c ≡ waitingFits f now next c
     unfolding waitingBy waitingFits
     waiting-is = ap (λ (b : Bool). b && bare c) alone-is ∙ and-comm (lawful kind) (bare c)
+
+-- The rows of any disk are bounds.
+pub rows-bound : (used promised now : ℕ) → Bounds (boundsOf used promised now)
+unfolding diskTable
+rows-bound used promised now =
+    record {
+      long = refl;
+      values =
+          method-cases (λ m. m < 7 → getD (boundsOf used promised now) m 0 ≡ mostValueBy (kindAt diskTable m))
+          (λ k. refl) (λ k. refl) (λ k. refl) (λ k. refl) (λ k. refl) (λ k. refl) (λ k. refl) (λ m l k. absurd (omega arith));
+      flags =
+          method-cases (λ m. m < 7 → getD (boundsOf used promised now) (21 + m) 0 ≡ ifReading (kindAt diskTable m) mostFlag 0)
+          (λ k. refl) (λ k. refl) (λ k. refl) (λ k. refl) (λ k. refl) (λ k. refl) (λ k. refl) (λ m l k. absurd (omega arith));
+      tolds =
+          method-cases (λ m. m < 7 → getD (boundsOf used promised now) (28 + m) 0 ≡ ifReading (kindAt diskTable m) mostError 0)
+          (λ k. refl) (λ k. refl) (λ k. refl) (λ k. refl) (λ k. refl) (λ k. refl) (λ k. refl) (λ m l k. absurd (omega arith));
+    }
+
+-- What passes has a known method.
+pub known-method : (most : List ℕ) (next : ℕ) (c : Claim) → aloneFits most next c ≡ true → c .method < 7
+unfolding aloneFits
+known-method most next c e =
+    ltb-true (c .method) 7 (passed (aloneTests (getD most (7 + c .method) 0) (getD most (14 + c .method) 0) next (kindOf diskTable c) c) e .0)
 
 -- What an active claim adds is in range.
 pub add-most : (f : Figures) (now next : ℕ) (c : Claim) → activeFits f now next c ≡ true → addOf c ≤ mostValue

@@ -2,7 +2,7 @@
 use Prim.Native.Nat.{ℕ, _+_, _≤_, _<_}
 use mathlib.Core.Bool.{true, false}
 use mathlib.Core.List.{List, _∷_}
-use mathlib.Core.Path.{_≡_, sym, _∙_}
+use mathlib.Core.Path.{_≡_, sym, _∙_, subst}
 use native.Mathlib.Omega.{arith}
 use lib.ListN.{length, drop, getD, length-append, List·getD-append}
 use lib.Seq.{getD-take, getD-append-add}
@@ -18,10 +18,10 @@ use Rattle.rules.specs.Disks.{figuresIn, Good}
 use Rattle.part.specs.Layout.{decode}
 use Rattle.part.specs.LayoutLaws.{decode-good}
 use Rattle.part.specs.Held.{held, HoldsDisk}
-use Rattle.sound.specs.Tests.{activeFits, waitingFits, activeBy, waitingBy, codeTests}
+use Rattle.sound.specs.Tests.{activeFits, waitingFits, Bounds, activeBy, waitingBy, codeTests}
 use Rattle.sound.specs.Seen.{Ready, noneSeen, seenOf}
 use Rattle.sound.proofs.WalkLaws.{turn}
-use Rattle.sound.proofs.AloneLaws.{active-is, waiting-is}
+use Rattle.sound.proofs.AloneLaws.{active-is, waiting-is, rows-bound}
 use Rattle.sound.proofs.SoundLaws.{sound-is}
 
 -- The claims of a part.
@@ -95,9 +95,13 @@ module _ {s : List ℕ} (h : HoldsDisk s) where
   seen-all q e = rw (← whole, e, q)
 
 -- The test of a claim with the bounds read is that with the disk's figures.
-module _ {s most : List ℕ} (r : Ready s most) (clock next : ℕ) (p : clock ≡ decode s .clock) (q : next ≡ decode s .next) (c : Claim) where
-  pub active-by : activeBy most clock next c ≡ activeFits (figuresIn (decode s)) (decode s .clock) (decode s .next) c
-  active-by = (λ i. activeBy (r .row i) (p i) (q i) c) ∙ active-is (figuresIn (decode s)) (decode s .clock) (decode s .next) (r .figures) c
+module _ {s most : List ℕ} (r : Ready s most) (next : ℕ) (q : next ≡ decode s .next) (c : Claim) where
+  pub active-by : activeBy most next c ≡ activeFits (figuresIn (decode s)) (decode s .clock) (decode s .next) c
+  active-by = (λ i. activeBy (r .rows i) (q i) c) ∙ active-is (figuresIn (decode s)) (decode s .clock) (decode s .next) (r .figures) c
 
-  pub waiting-by : waitingBy most clock next c ≡ waitingFits (figuresIn (decode s)) (decode s .clock) (decode s .next) c
-  waiting-by = (λ i. waitingBy (r .row i) (p i) (q i) c) ∙ waiting-is (figuresIn (decode s)) (decode s .clock) (decode s .next) (r .figures) c
+  pub waiting-by : waitingBy most next c ≡ waitingFits (figuresIn (decode s)) (decode s .clock) (decode s .next) c
+  waiting-by = (λ i. waitingBy (r .rows i) (q i) c) ∙ waiting-is (figuresIn (decode s)) (decode s .clock) (decode s .next) (r .figures) c
+
+-- The rows read are bounds.
+pub ready-bounds : {s most : List ℕ} → Ready s most → Bounds most
+ready-bounds {s = s} r = subst Bounds (sym (r .rows)) (rows-bound (decode s .used .limit) (decode s .promised .limit) (decode s .clock))

@@ -2,13 +2,13 @@
 use Prim.Native.Nat.{_+_}
 use mathlib.Core.Bool.{Bool, true, false, not, _&&_, _||_}
 use mathlib.Core.List.{List, [], _∷_, _++_}
-use mathlib.Core.Path.{_≡_, refl, sym, ap, _∙_}
+use mathlib.Core.Path.{_≡_, refl, ap, _∙_}
 use Rattle.law.specs.declared.Claim.{Claim}
 use Rattle.law.specs.Base.{everyOf, everyPair, anyOf}
 use Rattle.rules.specs.declared.totals.Totals.{Totals}
 use Rattle.rules.specs.Pairs.{addOf}
-use Rattle.rules.specs.Totals.{noTotals, withClaim, totalsFrom, totalsOf, keepOut, mayClash}
-use Rattle.rules.proofs.TotalsLaws.{never, out-is, totals-last, quiet-next}
+use Rattle.rules.specs.Totals.{noTotals, withClaim, totalsFrom, totalsOf, keepOut}
+use Rattle.rules.proofs.TotalsLaws.{never, out-is, totals-last}
 use Rattle.sound.specs.Tests.{meets}
 use Rattle.sound.proofs.WalkLaws.{every-true, every-and}
 
@@ -73,13 +73,3 @@ meet-from vs (w ∷ ws) =
 pub meets-is : (ws : List Claim) → meetFrom noTotals ws ≡ everyPair meets ws
 unfolding totalsFrom
 meets-is ws = meet-from [] ws ∙ ap (λ (b : Bool). b && everyPair meets ws) (every-true ws)
-
--- ---- the masks say that none clash
-
-quiet-from : (t : Totals) (ws : List Claim) → mayClash (totalsFrom t ws) ≡ false → meetFrom t ws ≡ true
-unfolding meetFrom totalsFrom
-quiet-from t [] h = refl
-quiet-from t (w ∷ ws) h = rw (quiet-next t w ws h) (quiet-from (withClaim t w) ws h)
-
-pub quiet-meets : (ws : List Claim) → mayClash (totalsOf ws) ≡ false → everyPair meets ws ≡ true
-quiet-meets ws h = sym (meets-is ws) ∙ quiet-from noTotals ws h

@@ -8,7 +8,7 @@ use Rattle.law.specs.declared.Claim.{Claim}
 use Rattle.law.specs.Types.{Disk as LawDisk}
 use Rattle.law.specs.Sound.{sound}
 use Rattle.law.specs.DiskType.{diskTable}
-use Rattle.rules.specs.Methods.{mostErrors}
+use Rattle.rules.specs.Methods.{boundsOf}
 use Rattle.rules.specs.Totals.{noTotals, totalsOf}
 use Rattle.part.specs.Layout.{decode}
 use Rattle.part.specs.Held.{held, HoldsDisk}
@@ -39,15 +39,15 @@ marksOf cs = marksFrom noMarks cs
 
 -- ---- what a walk over claims starts from
 
--- How large the error of each method may be on the disk of a part.
+-- How large the fields of a claim may be on the disk of a part.
 abbrev pub mostIn : List ℕ → List ℕ
-mostIn s = mostErrors (decode s .used .limit) (decode s .promised .limit)
+mostIn s = boundsOf (decode s .used .limit) (decode s .promised .limit) (decode s .clock)
 
--- A part that holds a disk whose figures fit, and the row of the largest errors.
+-- A part that holds a disk whose figures fit, and the rows of its bounds.
 pub record Ready (s most : List ℕ) : Type 0 where
   pub disk : HoldsDisk s
   pub figures : figuresOn (held s) ≡ true
-  pub row : most ≡ mostIn s
+  pub rows : most ≡ mostIn s
 
 -- ---- the whole
 

@@ -1,18 +1,19 @@
 -- What the code tests of a disk, in its own order: its figures, its active claims, its waiting ones. The tests of single
 -- claims and attributes are the law's.
-use Prim.Native.Nat.{ℕ, _+_}
+use Prim.Native.Nat.{ℕ, _+_, _<_}
 use mathlib.Core.Bool.{Bool, cond, not}
 use mathlib.Core.List.{List, [], _∷_, _++_, map}
+use mathlib.Core.Path.{_≡_}
 use lib.Dec.{leb, ltb, eqb}
 use lib.IntN.{ℤ}
-use lib.ListN.{getD}
+use lib.ListN.{length, getD}
 use Rattle.num.specs.Metric.{size}
 use Rattle.num.specs.Signed.{wordOf}
 use Rattle.law.specs.declared.Attr.{Attr}
 use Rattle.law.specs.declared.Claim.{Claim}
 use Rattle.law.specs.Base.{allTrue, everyOf, everyPair, sumOf}
 use Rattle.law.specs.Types.{mostValue, mostError, mostState, mostPriority, mostFlag, lastTicket, Attribute, a0, a1, a2, Kind, sets, adds, reads, Figures, attr, Disk as LawDisk}
-use Rattle.law.specs.Entries.{kindOf, entry, isNever}
+use Rattle.law.specs.Entries.{kindAt, kindOf, entry, isNever}
 use Rattle.law.specs.Calls.{valueFits, before}
 use Rattle.law.specs.Sound.{bare, bareBy, readingBy, limitFits, formed, passes, claimsOn}
 use Rattle.law.specs.DiskType.{diskTable}
@@ -87,46 +88,53 @@ valueIn (sets a) z = valueFits a z
 valueIn (adds a) z = leb (size z) mostValue
 valueIn (reads m) z = eqb (size z) 0
 
--- What an active claim and a waiting one both pass where its error may be so large, 16 to 18 among it (AloneLaws); then the
--- fresh flag.
+-- Rows of bounds by method, as long as five, of which those of values, flags and told sums are the same on every disk.
+pub record Bounds (most : List ℕ) : Type 0 where
+  pub long : length most ≡ 35
+  pub values : (m : ℕ) → m < 7 → getD most m 0 ≡ mostValueBy (kindAt diskTable m)
+  pub flags : (m : ℕ) → m < 7 → getD most (21 + m) 0 ≡ ifReading (kindAt diskTable m) mostFlag 0
+  pub tolds : (m : ℕ) → m < 7 → getD most (28 + m) 0 ≡ ifReading (kindAt diskTable m) mostError 0
+
+-- What an active claim and a waiting one both pass where its error may be so large and its second of measuring so late, 16 to 18 among
+-- it (AloneLaws); then the fresh flag.
 abbrev pub aloneFront : ℕ → ℕ → ℕ → Kind → Claim → List Bool
-aloneFront most now next k c =
+aloneFront most last next k c =
     ltb (c .method) 7
     ∷ leb 1 (c .ticket)
     ∷ ltb (c .ticket) next
     ∷ leb (c .priority) mostPriority
     ∷ valueIn k (c .value)
     ∷ leb (c .error) most
-    ∷ leb (c .measured) (ifReading k 0 now)
+    ∷ leb (c .measured) last
     ∷ []
 
 abbrev pub flagTest : Kind → Claim → Bool
 flagTest k c = leb (c .flag) (ifReading k mostFlag 0)
 
 abbrev pub aloneTests : ℕ → ℕ → ℕ → Kind → Claim → List Bool
-aloneTests most now next k c = aloneFront most now next k c ++ (flagTest k c ∷ [])
+aloneTests most last next k c = aloneFront most last next k c ++ (flagTest k c ∷ [])
 
--- By a row of the most error of each method.
-unfoldable pub aloneFits : List ℕ → ℕ → ℕ → Claim → Bool
-aloneFits most now next c = allTrue (aloneTests (getD most (c .method) 0) now next (kindOf diskTable c) c)
+-- By the rows of bounds.
+unfoldable pub aloneFits : List ℕ → ℕ → Claim → Bool
+aloneFits most next c = allTrue (aloneTests (getD most (7 + c .method) 0) (getD most (14 + c .method) 0) next (kindOf diskTable c) c)
 
 -- An active claim: that, and its told; then its amount.
-abbrev pub activeFront : List ℕ → ℕ → ℕ → Claim → List Bool
-activeFront most now next c =
-    aloneFits most now next c ∷ leb (size (c .told)) (ifReading (kindOf diskTable c) mostError 0) ∷ []
+abbrev pub activeFront : List ℕ → ℕ → Claim → List Bool
+activeFront most next c =
+    aloneFits most next c ∷ leb (size (c .told)) (ifReading (kindOf diskTable c) mostError 0) ∷ []
 
 abbrev pub amountTest : Claim → Bool
 amountTest c = leb (c .amount) (ifReading (kindOf diskTable c) (c .error) 0)
 
-unfoldable pub activeBy : List ℕ → ℕ → ℕ → Claim → Bool
-activeBy most now next c = allTrue (activeFront most now next c ++ (amountTest c ∷ []))
+unfoldable pub activeBy : List ℕ → ℕ → Claim → Bool
+activeBy most next c = allTrue (activeFront most next c ++ (amountTest c ∷ []))
 
 -- A waiting claim: both are 0.
-abbrev pub waitingFront : List ℕ → ℕ → ℕ → Claim → List Bool
-waitingFront most now next c = aloneFits most now next c ∷ eqb (size (c .told)) 0 ∷ []
+abbrev pub waitingFront : List ℕ → ℕ → Claim → List Bool
+waitingFront most next c = aloneFits most next c ∷ eqb (size (c .told)) 0 ∷ []
 
-unfoldable pub waitingBy : List ℕ → ℕ → ℕ → Claim → Bool
-waitingBy most now next c = allTrue (waitingFront most now next c ++ (eqb (c .amount) 0 ∷ []))
+unfoldable pub waitingBy : List ℕ → ℕ → Claim → Bool
+waitingBy most next c = allTrue (waitingFront most next c ++ (eqb (c .amount) 0 ∷ []))
 
 -- ---- two claims
 

@@ -1,11 +1,11 @@
-// The active claims of a part: one walk over each by itself, which gathers what the decision and the walk over the waiting claims
-// need; and whether two of them keep each other out.
+// The active claims of a part: one walk, which tests each by itself and against the totals of those before it, and gathers what the
+// decision and the walk over the waiting claims need.
 
 ghost use mathlib.Core.Bool.{true};
 ghost use mathlib.Core.Path.{_≡_};
 ghost use Rattle.rules.specs.Totals.{totalsOf};
-ghost use Rattle.part.specs.Held.{held, HoldsDisk};
-ghost use Rattle.sound.specs.Tests.{everyMeets, activesFit};
+ghost use Rattle.part.specs.Held.{held};
+ghost use Rattle.sound.specs.Tests.{activesFit};
 ghost use Rattle.sound.specs.Seen.{marksOf, Ready};
 use crate::alone::active_fits;
 use crate::tickets::Marks;
@@ -15,12 +15,10 @@ use law::limits::MOST_VALUE;
 use num::signed::size;
 use part::read::active_at;
 use part::read::actives_at;
-use part::read::clock_at;
 use part::read::next_at;
 use part::read::promised_at;
 use rules::totals::Totals;
 use rules::totals::keep_out;
-use rules::totals::may_clash;
 use rules::totals::no_totals;
 use rules::totals::with_claim;
 
@@ -38,7 +36,6 @@ pub(crate) fn actives_fit(s: &[u8], most: &[u32]) -> Walked
     ensures { λ r. ⌜ (r .ok ≡ true → r .totals ≡ totalsOf (held (now (s .entry)) .core .active)) ⌝ }
     ensures { λ r. ⌜ (r .ok ≡ true → r .marks ≡ marksOf (held (now (s .entry)) .core .active)) ⌝ }
 {
-    let clock = clock_at(s);
     let next = next_at(s);
     let n = actives_at(s) as usize;
     let none = no_totals();
@@ -48,7 +45,14 @@ pub(crate) fn actives_fit(s: &[u8], most: &[u32]) -> Walked
     let mut i: usize = 0;
     while i < n {
         let x = active_at(s, i);
-        if !active_fits(x, clock, next, most) {
+        if !active_fits(x, next, most) {
+            return Walked {
+                ok: false,
+                totals: none,
+                marks: unmarked,
+            };
+        }
+        if keep_out(totals, x.method) {
             return Walked {
                 ok: false,
                 totals: none,
@@ -59,45 +63,7 @@ pub(crate) fn actives_fit(s: &[u8], most: &[u32]) -> Walked
         marks = with_ticket(marks, x);
         i += 1;
     }
-    if !none_clash(s, totals) {
-        return Walked {
-            ok: false,
-            totals: none,
-            marks: unmarked,
-        };
-    }
     let promised = promised_at(s);
     let ok = size(promised.value) as u64 + totals.sum <= MOST_VALUE as u64;
     Walked { ok, totals, marks }
-}
-
-// No two active claims, which have these totals, have entry N: they are held against each other only where the masks leave it open.
-fn none_clash(s: &[u8], t: Totals) -> bool
-    requires { ⌜ HoldsDisk (now s) ⌝ }
-    requires { ⌜ t ≡ totalsOf (held (now s) .core .active) ⌝ }
-    ensures { λ r. ⌜ r ≡ everyMeets (held (now (s .entry))) ⌝ }
-{
-    if may_clash(t) {
-        return actives_meet(s);
-    }
-    true
-}
-
-// The same, by a walk that holds each claim against the totals of those before it.
-fn actives_meet(s: &[u8]) -> bool
-    requires { ⌜ HoldsDisk (now s) ⌝ }
-    ensures { λ r. ⌜ r ≡ everyMeets (held (now (s .entry))) ⌝ }
-{
-    let n = actives_at(s) as usize;
-    let mut t = no_totals();
-    let mut i: usize = 0;
-    while i < n {
-        let x = active_at(s, i);
-        if keep_out(t, x.method) {
-            return false;
-        }
-        t = with_claim(t, x);
-        i += 1;
-    }
-    true
 }

@@ -12,7 +12,6 @@ use crate::alone::waiting_fits;
 use crate::tickets::Marks;
 use crate::tickets::apart;
 use crate::tickets::with_ticket;
-use part::read::clock_at;
 use part::read::next_at;
 use part::read::waiting_at;
 use part::read::waitings_at;
@@ -51,14 +50,13 @@ fn waitings_fit(s: &[u8], most: &[u32], marks: Marks) -> Waited
     ensures { λ r. ⌜ r .ok ≡ waitingsFit (held (now (s .entry))) ⌝ }
     ensures { λ r. ⌜ (r .ok ≡ true → r .marks ≡ marksFrom marks (held (now (s .entry)) .waiting)) ⌝ }
 {
-    let clock = clock_at(s);
     let next = next_at(s);
     let n = waitings_at(s) as usize;
     let mut all = marks;
     let mut i: usize = 0;
     while i < n {
         let x = waiting_at(s, i);
-        if !waiting_fits(x, clock, next, most) {
+        if !waiting_fits(x, next, most) {
             return Waited { ok: false, marks };
         }
         all = with_ticket(all, x);

@@ -21,12 +21,6 @@ loop-holds c = (omega arith, refl)
 slice-write-out : tie.Need-slice-write-out Inv-loop μ-loop
 slice-write-out c = rw (c .before .loop .inv .1) (simp (length-append, length-replicate, length-drop) (omega arith))
 
-add-i : tie.Need-add-i Inv-loop μ-loop
-add-i c = search needs
-
-loop-less : tie.Need-loop-less Inv-loop μ-loop
-loop-less c = search needs
-
 loop-again : tie.Need-loop-again Inv-loop μ-loop
 loop-again c =
     let i : ℕ = c .before .loop .i in
@@ -51,8 +45,8 @@ clear-spec =
     μ-loop
     loop-holds
     slice-write-out
-    add-i
-    loop-less
+    (λ c. search needs)
+    (λ c. search needs)
     loop-again
     same-length
     returns)

@@ -7,27 +7,6 @@ use Rattle.answer.specs.AnswerLaws.{alone}
 use Rattle.answer.proofs.put_answer.Statement.{statement}
 use Rattle.answer.proofs.put_answer.Tie as tie
 
-code-requires : tie.Need-code-requires
-code-requires c κs = search needs
-
-ticket-requires : tie.Need-ticket-requires
-ticket-requires c κs = search needs
-
-told-requires : tie.Need-told-requires
-told-requires c κs = search needs
-
-amount-requires : tie.Need-amount-requires
-amount-requires c κs = search needs
-
-clear-requires : tie.Need-clear-requires
-clear-requires c κs = search needs
-
-put-item-requires : tie.Need-put-item-requires
-put-item-requires c κs = search needs
-
-same-length : tie.Need-same-length
-same-length c = search needs
-
 returns : tie.Need-returns
 unfolding itemBytes
 returns c =
@@ -52,11 +31,11 @@ pub put-answer-spec : {M : Type 1} → statement M
 put-answer-spec =
     tie.close
     (tie.spec
-    code-requires
-    ticket-requires
-    told-requires
-    amount-requires
-    clear-requires
-    put-item-requires
-    same-length
+    (λ c κs. search needs)
+    (λ c κs. search needs)
+    (λ c κs. search needs)
+    (λ c κs. search needs)
+    (λ c κs. search needs)
+    (λ c κs. search needs)
+    (λ c. search needs)
     returns)

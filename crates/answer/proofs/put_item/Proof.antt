@@ -23,33 +23,6 @@ four-words l at x y z w =
       splice-splice l at (at + 12) (le4 x ++ le4 y ++ le4 z) (le4 w) refl,
     ))
 
-put-word-requires : tie.Need-put-word-requires
-put-word-requires c κs = search needs
-
-add-put-word : tie.Need-add-put-word
-add-put-word c = search needs
-
-put-word-requires-2 : tie.Need-put-word-requires-2
-put-word-requires-2 c κs = search needs
-
-add-put-word-2 : tie.Need-add-put-word-2
-add-put-word-2 c = search needs
-
-to-word-requires : tie.Need-to-word-requires
-to-word-requires c κs = search needs
-
-put-word-requires-3 : tie.Need-put-word-requires-3
-put-word-requires-3 c κs = search needs
-
-add-put-word-3 : tie.Need-add-put-word-3
-add-put-word-3 c = search needs
-
-put-word-requires-4 : tie.Need-put-word-requires-4
-put-word-requires-4 c κs = search needs
-
-same-length : tie.Need-same-length
-same-length c = search needs
-
 returns : tie.Need-returns
 returns c =
     let p4 = c .before .before in
@@ -72,13 +45,13 @@ pub put-item-spec : {M : Type 1} → statement M
 put-item-spec =
     tie.close
     (tie.spec
-    put-word-requires
-    add-put-word
-    put-word-requires-2
-    add-put-word-2
-    to-word-requires
-    put-word-requires-3
-    add-put-word-3
-    put-word-requires-4
-    same-length
+    (λ c κs. search needs)
+    (λ c. search needs)
+    (λ c κs. search needs)
+    (λ c. search needs)
+    (λ c κs. search needs)
+    (λ c κs. search needs)
+    (λ c. search needs)
+    (λ c κs. search needs)
+    (λ c. search needs)
     returns)

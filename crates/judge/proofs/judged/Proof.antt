@@ -117,45 +117,15 @@ line k = row-length (good (begun k) .waiting) ∙ sym (waitings-is k)
 
 -- ---- the needs
 
-used-at-requires : tie.Need-used-at-requires
-used-at-requires c κs = search needs
-
-promised-at-requires : tie.Need-promised-at-requires
-promised-at-requires c κs = search needs
-
-state-at-requires : tie.Need-state-at-requires
-state-at-requires c κs = search needs
-
-clock-at-requires : tie.Need-clock-at-requires
-clock-at-requires c κs = search needs
-
-checked-requires : tie.Need-checked-requires
-checked-requires c κs = search needs
-
-enum-known-tested : tie.Need-enum-known-tested
-enum-known-tested c = search needs
-
 returns : tie.Need-returns
 returns c =
     let k = c .before .before .before in
     answer-refused (law (start k)) (second (start k)) (asks (start k)) (new (start k)) (sym (c .before .tested .given .1) ∙ tests k)
 
-enum-told : tie.Need-enum-told
-enum-told c = search needs
-
-waitings-at-requires : tie.Need-waitings-at-requires
-waitings-at-requires c κs = search needs
-
-cast-decide : tie.Need-cast-decide
-cast-decide c = search needs
-
 decide-requires : tie.Need-decide-requires
 decide-requires c κs =
     let s = c .before .before .before .before .before .before .before .before .before in
     (s .pre .0 .disk, (omega (arith, good s .waiting .few, c .waitings-at .ensures), s .pre .1 .1))
-
-told-requires : tie.Need-told-requires
-told-requires c κs = search needs
 
 narrow-requires : tie.Need-narrow-requires
 narrow-requires c κs =
@@ -193,18 +163,18 @@ pub judged-spec : {M : Type 1} → statement M
 judged-spec =
     tie.close
     (tie.spec
-    used-at-requires
-    promised-at-requires
-    state-at-requires
-    clock-at-requires
-    checked-requires
-    enum-known-tested
+    (λ c κs. search needs)
+    (λ c κs. search needs)
+    (λ c κs. search needs)
+    (λ c κs. search needs)
+    (λ c κs. search needs)
+    (λ c. search needs)
     returns
-    enum-told
-    waitings-at-requires
-    cast-decide
+    (λ c. search needs)
+    (λ c κs. search needs)
+    (λ c. search needs)
     decide-requires
-    told-requires
+    (λ c κs. search needs)
     narrow-requires
     cast-total
     returns-2

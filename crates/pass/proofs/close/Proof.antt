@@ -1,6 +1,6 @@
 -- The places behind those that wait are cleared, and the head says how many wait.
 use mathlib.Core.List.{List}
-use mathlib.Core.Path.{_≡_, sym, ap, subst}
+use mathlib.Core.Path.{sym, ap, subst}
 use native.Mathlib.Omega.{arith}
 use borrow.Author.Needs.{needs}
 use lib.ListN.{take}
@@ -22,29 +22,11 @@ disk k = decode (k .args .s .now)
 holds : (k : tie.After-slice-known) → Holds (k .before .args .s .now) (disk (k .before))
 holds k = disk-holds (k .before .pre .0) (λ i. k .slice-known .given i .fits)
 
-sub-clear-from : tie.Need-sub-clear-from
-sub-clear-from c = search needs
-
-part-clear-from-start : tie.Need-part-clear-from-start
-part-clear-from-start c = search needs
-
-part-clear-from-end : tie.Need-part-clear-from-end
-part-clear-from-end c = search needs
-
 clear-from-requires : tie.Need-clear-from-requires
 clear-from-requires c κs =
     let h = c .before in
     let k = h .before in
     (waiting-lent (holds h), (rw (waiting-slots (holds h), k .pre .1 .1) (disk-good (k .pre .0) .waiting), k .pre .1 .0))
-
-cast-put-word : tie.Need-cast-put-word
-cast-put-word c = search needs
-
-put-word-requires : tie.Need-put-word-requires
-put-word-requires c κs = search needs
-
-same-length : tie.Need-same-length
-same-length c = search needs
 
 returns : tie.Need-returns
 returns c =
@@ -68,11 +50,11 @@ pub close-spec : {M : Type 1} → statement M
 close-spec =
     tie.close
     (tie.spec
-    sub-clear-from
-    part-clear-from-start
-    part-clear-from-end
+    (λ c. search needs)
+    (λ c. search needs)
+    (λ c. search needs)
     clear-from-requires
-    cast-put-word
-    put-word-requires
-    same-length
+    (λ c. search needs)
+    (λ c κs. search needs)
+    (λ c. search needs)
     returns)

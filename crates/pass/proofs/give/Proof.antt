@@ -38,17 +38,11 @@ told-is t =
 sum-is : (n : tie.After-narrow) → let k = at-narrow n in n .narrow .result ≡ toldBy (figuresIn (disk k)) (kindOf diskTable (k .args .c))
 sum-is n = n .narrow .ensures ∙ toZ-ofZ (record { sfits = n .before .told .ok }) ∙ told-is (n .before)
 
-used-at-requires : tie.Need-used-at-requires
-used-at-requires c κs = search needs
-
 promised-at-requires : tie.Need-promised-at-requires
 promised-at-requires c κs = c .before .before .before .before .before .pre .0 .long
 
 state-at-requires : tie.Need-state-at-requires
 state-at-requires c κs = c .before .before .before .before .before .before .before .pre .0 .long
-
-told-requires : tie.Need-told-requires
-told-requires c κs = search needs
 
 narrow-requires : tie.Need-narrow-requires
 narrow-requires c κs = rw (toZ-ofZ (record { sfits = c .told .ok }), told-is c) (omega (arith, at-told c .pre .1 .1 .0))
@@ -63,12 +57,6 @@ put-grant-requires : tie.Need-put-grant-requires
 put-grant-requires c κs =
     let k = c .before .before .before .before .before .before .before .before .before .before .before .before .before .before .before in
     (k .pre .1 .1 .1 .1 .0, k .pre .1 .1 .1 .1 .1)
-
-same-length : tie.Need-same-length
-same-length c = search needs
-
-same-length-2 : tie.Need-same-length-2
-same-length-2 c = search needs
 
 returns : tie.Need-returns
 unfolding grantItem
@@ -90,13 +78,13 @@ pub give-spec : {M : Type 1} → statement M
 give-spec =
     tie.close
     (tie.spec
-    used-at-requires
+    (λ c κs. search needs)
     promised-at-requires
     state-at-requires
-    told-requires
+    (λ c κs. search needs)
     narrow-requires
     grant-requires
     put-grant-requires
-    same-length
-    same-length-2
+    (λ c. search needs)
+    (λ c. search needs)
     returns)

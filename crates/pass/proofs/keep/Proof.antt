@@ -46,25 +46,10 @@ returns c =
 waiting-at-requires : tie.Need-waiting-at-requires
 waiting-at-requires c κs = (search needs, place (c .before .before .before))
 
-sub-put-slot : tie.Need-sub-put-slot
-sub-put-slot c = search needs
-
-part-put-slot-start : tie.Need-part-put-slot-start
-part-put-slot-start c = search needs
-
-part-put-slot-end : tie.Need-part-put-slot-end
-part-put-slot-end c = search needs
-
 put-slot-requires : tie.Need-put-slot-requires
 put-slot-requires c κs =
     let k = c .before .before .before .before in
     (waiting-lent (holds k), omega (arith, place (k .before), k .before .pre .1 .1))
-
-add-result-2 : tie.Need-add-result-2
-add-result-2 c = search needs
-
-same-length : tie.Need-same-length
-same-length c = search needs
 
 returns-2 : tie.Need-returns-2
 returns-2 c =
@@ -87,10 +72,10 @@ keep-spec =
     add-result
     returns
     waiting-at-requires
-    sub-put-slot
-    part-put-slot-start
-    part-put-slot-end
+    (λ c. search needs)
+    (λ c. search needs)
+    (λ c. search needs)
     put-slot-requires
-    add-result-2
-    same-length
+    (λ c. search needs)
+    (λ c. search needs)
     returns-2)

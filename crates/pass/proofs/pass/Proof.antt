@@ -5,7 +5,6 @@ use mathlib.Core.Path.{_≡_, sym, ap, _∙_, subst}
 use native.Mathlib.Omega.{arith}
 use borrow.Author.Needs.{needs}
 use lib.ListN.{length}
-use Rattle.law.specs.Types.{Disk as LawDisk}
 use Rattle.rules.specs.declared.disk.Disk.{Disk}
 use Rattle.rules.specs.Totals.{totalsOf}
 use Rattle.part.specs.Layout.{decode}
@@ -49,15 +48,6 @@ count w = w .waitings-at .ensures
 more : (t : tie.In-loop Inv μ) → t .before .loop .i < disk (at-count (counted (walk t))) .waitings
 more t = subst (λ (m : ℕ). t .before .loop .i < m) (count (counted (walk t))) (t .loop-test .taken)
 
-waitings-at-requires : tie.Need-waitings-at-requires Inv μ
-waitings-at-requires c κs = search needs
-
-cast-n : tie.Need-cast-n Inv μ
-cast-n c = search needs
-
-same-length : tie.Need-same-length Inv μ
-same-length c = search needs
-
 -- ---- nothing waits
 
 returns : tie.Need-returns Inv μ
@@ -73,9 +63,6 @@ returns c =
     )
 
 -- ---- the walk
-
-totals-at-requires : tie.Need-totals-at-requires Inv μ
-totals-at-requires c κs = search needs
 
 loop-holds : tie.Need-loop-holds Inv μ
 loop-holds c =
@@ -99,12 +86,6 @@ after-turn-requires c κs =
     let e = v .turn in
     (e .ensures .0, (λ q. l .3 ∙ ap totalsOf (sym (turn-keeps (l .2) (more t) (decode (e .last .0)) (e .last .1 .0) (e .result) (e .ensures .1) q))))
 
-add-i : tie.Need-add-i Inv μ
-add-i c = search needs
-
-loop-less : tie.Need-loop-less Inv μ
-loop-less c = search needs
-
 loop-again : tie.Need-loop-again Inv μ
 loop-again c =
     let v = c .before .before .before .before .before .before in
@@ -118,12 +99,6 @@ close-requires c κs =
     let g = l .2 .going in
     let n = count (counted (w .before)) in
     (l .1, (omega (arith, kept g, g .looked, n), n ∙ sym (g .waits)))
-
-same-length-2 : tie.Need-same-length-2 Inv μ
-same-length-2 c = search needs
-
-same-length-3 : tie.Need-same-length-3 Inv μ
-same-length-3 c = search needs
 
 returns-2 : tie.Need-returns-2 Inv μ
 returns-2 c =
@@ -139,18 +114,18 @@ pass-spec =
     (tie.spec
     Inv
     μ
-    waitings-at-requires
-    cast-n
-    same-length
+    (λ c κs. search needs)
+    (λ c. search needs)
+    (λ c. search needs)
     returns
-    totals-at-requires
+    (λ c κs. search needs)
     loop-holds
     turn-requires
     after-turn-requires
-    add-i
-    loop-less
+    (λ c. search needs)
+    (λ c. search needs)
     loop-again
     close-requires
-    same-length-2
-    same-length-3
+    (λ c. search needs)
+    (λ c. search needs)
     returns-2)

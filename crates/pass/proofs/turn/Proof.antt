@@ -97,15 +97,6 @@ module _ (b : tie.Then2) where
 waiting-at-requires : tie.Need-waiting-at-requires
 waiting-at-requires c κs = (search needs, place (c .before .before .before))
 
-actives-at-requires : tie.Need-actives-at-requires
-actives-at-requires c κs = search needs
-
-keep-out-requires : tie.Need-keep-out-requires
-keep-out-requires c κs = tt
-
-either-requires : tie.Need-either-requires
-either-requires c κs = tt
-
 keep-requires : tie.Need-keep-requires
 keep-requires c κs = let k = at-either (c .before .before) in (k .pre .0, (k .pre .1 .1 .0, k .pre .1 .1 .1 .0))
 
@@ -131,9 +122,6 @@ stuck t =
     either-way true b h f g = f refl
     either-way false b h f g = g h
 
-same-length : tie.Need-same-length
-same-length c = search needs
-
 returns : tie.Need-returns
 returns c =
     let t = c .before .before .before .before in
@@ -147,9 +135,6 @@ returns c =
 
 waiting-at-requires-2 : tie.Need-waiting-at-requires-2
 waiting-at-requires-2 c κs = (search needs, place (at-either (c .before .before)))
-
-clock-at-requires : tie.Need-clock-at-requires
-clock-at-requires c κs = search needs
 
 decide-requires : tie.Need-decide-requires
 decide-requires c κs =
@@ -177,12 +162,6 @@ give-requires c κs =
       ),
     )
 
-same-length-2 : tie.Need-same-length-2
-same-length-2 c = search needs
-
-same-length-3 : tie.Need-same-length-3
-same-length-3 c = search needs
-
 returns-2 : tie.Need-returns-2
 returns-2 c =
     let b = c .before .before .before .before .before .before .before .before in
@@ -202,9 +181,6 @@ returns-2 c =
 keep-requires-2 : tie.Need-keep-requires-2
 keep-requires-2 c κs = let k = at-decide (c .before .before) in (k .pre .0, (k .pre .1 .1 .0, k .pre .1 .1 .1 .0))
 
-same-length-4 : tie.Need-same-length-4
-same-length-4 c = search needs
-
 returns-3 : tie.Need-returns-3
 returns-3 c =
     let v = c .before .before .before .before .before in
@@ -221,21 +197,21 @@ turn-spec =
     tie.close
     (tie.spec
     waiting-at-requires
-    actives-at-requires
-    keep-out-requires
-    either-requires
+    (λ c κs. search needs)
+    (λ c κs. tt)
+    (λ c κs. tt)
     keep-requires
-    same-length
+    (λ c. search needs)
     returns
     waiting-at-requires-2
-    clock-at-requires
+    (λ c κs. search needs)
     decide-requires
     sub-give
     cast-give
     give-requires
-    same-length-2
-    same-length-3
+    (λ c. search needs)
+    (λ c. search needs)
     returns-2
     keep-requires-2
-    same-length-4
+    (λ c. search needs)
     returns-3)

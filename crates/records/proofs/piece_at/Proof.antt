@@ -12,22 +12,10 @@ use Rattle.records.proofs.piece_at.Tie as tie
 returns : tie.Need-returns
 returns c = let a = c .before .before .args in sym (piece-end (a .run .now) (a .at) (search needs))
 
-sub-left : tie.Need-sub-left
-sub-left c = search needs
-
 returns-2 : tie.Need-returns-2
 returns-2 c =
     let a = c .before .before .before .args in
     sym (piece-short (a .run .now) (a .at) (omega arith) (omega (arith, length-least (getD (a .run .now) (a .at + 2) 0))))
-
-add-length-of : tie.Need-add-length-of
-add-length-of c = search needs
-
-shared-slice-read-length-of : tie.Need-shared-slice-read-length-of
-shared-slice-read-length-of c = search needs
-
-length-of-requires : tie.Need-length-of-requires
-length-of-requires c κs = search needs
 
 returns-3 : tie.Need-returns-3
 returns-3 c =
@@ -48,11 +36,11 @@ piece-at-spec =
     tie.close
     (tie.spec
     returns
-    sub-left
+    (λ c. search needs)
     returns-2
-    add-length-of
-    shared-slice-read-length-of
-    length-of-requires
+    (λ c. search needs)
+    (λ c. search needs)
+    (λ c κs. search needs)
     returns-3
     add-t7
     returns-4)

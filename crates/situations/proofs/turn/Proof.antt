@@ -10,51 +10,9 @@ use Rattle.situations.specs.Rows.{afterRow}
 use Rattle.situations.proofs.turn.Statement.{statement}
 use Rattle.situations.proofs.turn.Tie as tie
 
-array-read-kind : tie.Need-array-read-kind
-array-read-kind c = search needs
-
-sub-show : tie.Need-sub-show
-sub-show c = search needs
-
-part-show-start : tie.Need-part-show-start
-part-show-start c = search needs
-
-part-show-end : tie.Need-part-show-end
-part-show-end c = search needs
-
-array-read-show : tie.Need-array-read-show
-array-read-show c = search needs
-
-show-requires : tie.Need-show-requires
-show-requires c κs = search needs
-
-same-length : tie.Need-same-length
-same-length c = search needs
-
 returns : tie.Need-returns
 unfolding afterRow
 returns c = rw (eq-eqb _ _ (c .before .before .before .if1 .taken))
-
-record-of-requires : tie.Need-record-of-requires
-record-of-requires c κs = search needs
-
-slice-aggregate-step : tie.Need-slice-aggregate-step
-slice-aggregate-step c = search needs
-
-slice-aggregate-step-2 : tie.Need-slice-aggregate-step-2
-slice-aggregate-step-2 c = search needs
-
-step-requires : tie.Need-step-requires
-step-requires c κs = search needs
-
-slice-aggregate-print-answer : tie.Need-slice-aggregate-print-answer
-slice-aggregate-print-answer c = search needs
-
-print-answer-requires : tie.Need-print-answer-requires
-print-answer-requires c κs = search needs
-
-same-length-2 : tie.Need-same-length-2
-same-length-2 c = search needs
 
 returns-2 : tie.Need-returns-2
 unfolding afterRow
@@ -70,19 +28,19 @@ pub turn-spec : {M : Type 1} → statement M
 turn-spec =
     tie.close
     (tie.spec
-    array-read-kind
-    sub-show
-    part-show-start
-    part-show-end
-    array-read-show
-    show-requires
-    same-length
+    (λ c. search needs)
+    (λ c. search needs)
+    (λ c. search needs)
+    (λ c. search needs)
+    (λ c. search needs)
+    (λ c κs. search needs)
+    (λ c. search needs)
     returns
-    record-of-requires
-    slice-aggregate-step
-    slice-aggregate-step-2
-    step-requires
-    slice-aggregate-print-answer
-    print-answer-requires
-    same-length-2
+    (λ c κs. search needs)
+    (λ c. search needs)
+    (λ c. search needs)
+    (λ c κs. search needs)
+    (λ c. search needs)
+    (λ c κs. search needs)
+    (λ c. search needs)
     returns-2)

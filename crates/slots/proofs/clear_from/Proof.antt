@@ -19,22 +19,10 @@ Inv-loop row₀ k n none m₀ row m =
 abbrev μ-loop : tie.MeasureT-loop
 μ-loop row₀ k n none m₀ row m = m - k
 
-no-claim-requires : tie.Need-no-claim-requires Inv-loop μ-loop
-no-claim-requires c κs = search needs
-
 loop-holds : tie.Need-loop-holds Inv-loop μ-loop
 loop-holds c =
     let s = c .before .before in
     (omega arith, s .pre .0, s .pre .1 .0, refl)
-
-sub-m : tie.Need-sub-m Inv-loop μ-loop
-sub-m c = search needs
-
-put-slot-requires : tie.Need-put-slot-requires Inv-loop μ-loop
-put-slot-requires c κs = search needs
-
-loop-less : tie.Need-loop-less Inv-loop μ-loop
-loop-less c = search needs
 
 loop-again : tie.Need-loop-again Inv-loop μ-loop
 loop-again c =
@@ -48,9 +36,6 @@ loop-again c =
     let w = clear-last (l .loop .inv .2) (m - 1) (omega arith) (omega arith) in
     (omega arith, p .put-slot .ensures .0, rw e (w .row), rw e (take-set-le k old (m - 1) noClaim (omega arith) ∙ l .loop .inv .3))
 
-same-length : tie.Need-same-length Inv-loop μ-loop
-same-length c = search needs
-
 returns : tie.Need-returns Inv-loop μ-loop
 returns c =
     let l = c .before in
@@ -63,11 +48,11 @@ clear-from-spec =
     (tie.spec
     Inv-loop
     μ-loop
-    no-claim-requires
+    (λ c κs. search needs)
     loop-holds
-    sub-m
-    put-slot-requires
-    loop-less
+    (λ c. search needs)
+    (λ c κs. search needs)
+    (λ c. search needs)
     loop-again
-    same-length
+    (λ c. search needs)
     returns)

@@ -11,18 +11,6 @@ use Rattle.slots.specs.SlotsLaws.{set-fits, amount-fits, put-amount-in, 
 use Rattle.slots.proofs.put_amount.Statement.{statement}
 use Rattle.slots.proofs.put_amount.Tie as tie
 
-mul-put-word : tie.Need-mul-put-word
-mul-put-word c = search needs
-
-add-put-word : tie.Need-add-put-word
-add-put-word c = search needs
-
-put-word-requires : tie.Need-put-word-requires
-put-word-requires c κs = search needs
-
-same-length : tie.Need-same-length
-same-length c = search needs
-
 fits : (c : tie.Start) → c .args .amount < 2 ^ 32
 fits c = search needs
 
@@ -38,4 +26,4 @@ returns c =
 
 pub put-amount-spec : {M : Type 1} → statement M
 put-amount-spec =
-    tie.close (tie.spec mul-put-word add-put-word put-word-requires same-length returns)
+    tie.close (tie.spec (λ c. search needs) (λ c. search needs) (λ c κs. search needs) (λ c. search needs) returns)

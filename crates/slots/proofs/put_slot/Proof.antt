@@ -6,15 +6,6 @@ use Rattle.slots.specs.SlotsLaws.{set-fits, put-claim-in, put-in}
 use Rattle.slots.proofs.put_slot.Statement.{statement}
 use Rattle.slots.proofs.put_slot.Tie as tie
 
-mul-put-claim : tie.Need-mul-put-claim
-mul-put-claim c = search needs
-
-put-claim-requires : tie.Need-put-claim-requires
-put-claim-requires c κs = search needs
-
-same-length : tie.Need-same-length
-same-length c = search needs
-
 fits : (c : tie.Start) → ClaimFits (c .args .c)
 fits c =
     record {
@@ -37,4 +28,4 @@ returns c =
     (c .before .before .put-claim .ensures ∙ put-claim-in (a .row .now) (s .pre .0) (a .i) (a .c) (s .pre .1))
 
 pub put-slot-spec : {M : Type 1} → statement M
-put-slot-spec = tie.close (tie.spec mul-put-claim put-claim-requires same-length returns)
+put-slot-spec = tie.close (tie.spec (λ c. search needs) (λ c κs. search needs) (λ c. search needs) returns)

@@ -21,9 +21,6 @@ Inv-loop row₀ n y₀ i₀ row y i =
 abbrev μ-loop : tie.MeasureT-loop
 μ-loop row₀ n y₀ i₀ row y i = n - i
 
-place-requires : tie.Need-place-requires Inv-loop μ-loop
-place-requires c κs = search needs
-
 loop-holds : tie.Need-loop-holds Inv-loop μ-loop
 loop-holds c =
     let s = c .before .before .before in
@@ -31,18 +28,6 @@ loop-holds c =
     let cs = take (a .n) (slots 8 (a .row .now)) in
     let here = ap (λ (k : ℕ). insertAt k (a .c) cs) (c .place .ensures .0) ∙ sym (queue-place (a .c) cs) in
     (c .place .ensures .1, s .pre .0, s .pre .1 .0, here)
-
-slot-at-requires : tie.Need-slot-at-requires Inv-loop μ-loop
-slot-at-requires c κs = search needs
-
-put-slot-requires : tie.Need-put-slot-requires Inv-loop μ-loop
-put-slot-requires c κs = search needs
-
-add-i : tie.Need-add-i Inv-loop μ-loop
-add-i c = search needs
-
-loop-less : tie.Need-loop-less Inv-loop μ-loop
-loop-less c = search needs
 
 loop-again : tie.Need-loop-again Inv-loop μ-loop
 loop-again c =
@@ -58,12 +43,6 @@ loop-again c =
     ∙ insert-turn r i (l .loop .y) h
     ∙ l .loop .inv .3 in
     (omega arith, p .put-slot .ensures .0, rw (p .put-slot .ensures .1) (store-row r i _ h), rw (p .put-slot .ensures .1) turn)
-
-put-slot-requires-2 : tie.Need-put-slot-requires-2 Inv-loop μ-loop
-put-slot-requires-2 c κs = search needs
-
-same-length : tie.Need-same-length Inv-loop μ-loop
-same-length c = search needs
 
 returns : tie.Need-returns Inv-loop μ-loop
 returns c =
@@ -81,13 +60,13 @@ queue-in-spec =
     (tie.spec
     Inv-loop
     μ-loop
-    place-requires
+    (λ c κs. search needs)
     loop-holds
-    slot-at-requires
-    put-slot-requires
-    add-i
-    loop-less
+    (λ c κs. search needs)
+    (λ c κs. search needs)
+    (λ c. search needs)
+    (λ c. search needs)
     loop-again
-    put-slot-requires-2
-    same-length
+    (λ c κs. search needs)
+    (λ c. search needs)
     returns)

@@ -28,17 +28,8 @@ Inv-loop row₀ n m raise table col i₀ row i =
 abbrev μ-loop : tie.MeasureT-loop
 μ-loop row₀ n m raise table col i₀ row i = n - i
 
-index-of-requires : tie.Need-index-of-requires Inv-loop μ-loop
-index-of-requires c κs = tt
-
 loop-holds : tie.Need-loop-holds Inv-loop μ-loop
 loop-holds c = (omega arith, c .before .before .pre .0, refl)
-
-slot-at-requires : tie.Need-slot-at-requires Inv-loop μ-loop
-slot-at-requires c κs = search needs
-
-index-of-requires-2 : tie.Need-index-of-requires-2 Inv-loop μ-loop
-index-of-requires-2 c κs = tt
 
 mul-found : tie.Need-mul-found Inv-loop μ-loop
 mul-found c = omega (arith, c .index-of2 .ensures .1)
@@ -73,15 +64,6 @@ raised-requires c κs =
     ∙ ap (λ (w : Claim). letsBy (entryBy (kindOf diskTable w) (kindAt diskTable (a .m))) false (w .amount) (w .error) (a .raise)) q
     ∙ s .pre .1 .1 i (k .before .before .loop-test .taken)
 
-put-amount-requires : tie.Need-put-amount-requires Inv-loop μ-loop
-put-amount-requires c κs = search needs
-
-add-i : tie.Need-add-i Inv-loop μ-loop
-add-i c = search needs
-
-loop-less : tie.Need-loop-less Inv-loop μ-loop
-loop-less c = search needs
-
 loop-again : tie.Need-loop-again Inv-loop μ-loop
 loop-again c =
     let p = c .before .before in
@@ -108,9 +90,6 @@ loop-again c =
           ∙ to-step f cs i noClaim h,
     )
 
-same-length : tie.Need-same-length Inv-loop μ-loop
-same-length c = search needs
-
 returns : tie.Need-returns Inv-loop μ-loop
 returns c =
     let l = c .before in
@@ -124,18 +103,18 @@ raise-all-spec =
     (tie.spec
     Inv-loop
     μ-loop
-    index-of-requires
+    (λ c κs. tt)
     loop-holds
-    slot-at-requires
-    index-of-requires-2
+    (λ c κs. search needs)
+    (λ c κs. tt)
     mul-found
     index-1-found
     index-2-found
     entry-requires
     raised-requires
-    put-amount-requires
-    add-i
-    loop-less
+    (λ c κs. search needs)
+    (λ c. search needs)
+    (λ c. search needs)
     loop-again
-    same-length
+    (λ c. search needs)
     returns)

@@ -1,11 +1,9 @@
 -- Taking one out at i of what stands now is taking it out at `at` of what stood; at the last place that is a clearing.
-use Prim.Native.Nat.{ℕ, _+_, _-_, _≤_, _<_}
-use mathlib.Core.List.{List}
+use Prim.Native.Nat.{ℕ, _-_, _≤_, _<_}
 use mathlib.Core.Path.{_≡_, refl, sym, ap, _∙_}
 use native.Mathlib.Omega.{arith}
 use lib.ListN.{take, set}
 use borrow.Author.Needs.{needs}
-use Rattle.law.specs.declared.Claim.{Claim}
 use Rattle.rules.specs.Rows.{Row, removeAt}
 use Rattle.rules.specs.RowLaws.{store-row, remove-turn, remove-end, clear-last}
 use Rattle.part.specs.Layout.{slots}
@@ -20,28 +18,10 @@ Inv-loop row₀ n at last i₀ row i =
 abbrev μ-loop : tie.MeasureT-loop
 μ-loop row₀ n at last i₀ row i = last - i
 
-sub-last : tie.Need-sub-last Inv-loop μ-loop
-sub-last c = search needs
-
 loop-holds : tie.Need-loop-holds Inv-loop μ-loop
 loop-holds c =
     let s = c .before in
     (omega arith, s .pre .0, s .pre .1 .0, refl)
-
-add-slot-at : tie.Need-add-slot-at Inv-loop μ-loop
-add-slot-at c = search needs
-
-slot-at-requires : tie.Need-slot-at-requires Inv-loop μ-loop
-slot-at-requires c κs = search needs
-
-put-slot-requires : tie.Need-put-slot-requires Inv-loop μ-loop
-put-slot-requires c κs = search needs
-
-add-i : tie.Need-add-i Inv-loop μ-loop
-add-i c = search needs
-
-loop-less : tie.Need-loop-less Inv-loop μ-loop
-loop-less c = search needs
 
 loop-again : tie.Need-loop-again Inv-loop μ-loop
 loop-again c =
@@ -54,15 +34,6 @@ loop-again c =
     let r = l .loop .inv .2 in
     let e = p .put-slot .ensures .1 ∙ ap (set (slots 8 (l .loop .row)) i) (k .slot-at .ensures) in
     (omega arith, p .put-slot .ensures .0, rw e (store-row r i _ (omega arith)), rw e (remove-turn r i (omega arith) ∙ l .loop .inv .3))
-
-no-claim-requires : tie.Need-no-claim-requires Inv-loop μ-loop
-no-claim-requires c κs = search needs
-
-put-slot-requires-2 : tie.Need-put-slot-requires-2 Inv-loop μ-loop
-put-slot-requires-2 c κs = search needs
-
-same-length : tie.Need-same-length Inv-loop μ-loop
-same-length c = search needs
 
 returns : tie.Need-returns Inv-loop μ-loop
 returns c =
@@ -84,15 +55,15 @@ take-out-spec =
     (tie.spec
     Inv-loop
     μ-loop
-    sub-last
+    (λ c. search needs)
     loop-holds
-    add-slot-at
-    slot-at-requires
-    put-slot-requires
-    add-i
-    loop-less
+    (λ c. search needs)
+    (λ c κs. search needs)
+    (λ c κs. search needs)
+    (λ c. search needs)
+    (λ c. search needs)
     loop-again
-    no-claim-requires
-    put-slot-requires-2
-    same-length
+    (λ c κs. search needs)
+    (λ c κs. search needs)
+    (λ c. search needs)
     returns)

@@ -25,7 +25,7 @@ wrong : (k : tie.Start) (j : ℕ) {r : Seen} → r ≡ noneSeen → getD (codeTe
     r ≡ seenOf (held (part k))
 wrong k j h e = h ∙ seen-not (k .pre) (test-fails (codeTests (held (part k))) j e)
 
--- Where the row is made: the figures have passed.
+-- Where the rows are made: the figures have passed.
 module _ (m : tie.After-most-in) where
   abbrev figures : tie.Else1
   figures = m .before
@@ -38,7 +38,7 @@ module _ (m : tie.After-most-in) where
       record {
         disk = start .pre;
         figures = went (figures .before .figures-hold .ensures) (figures .if1 .left);
-        row = m .most-in .ensures;
+        rows = m .most-in .ensures;
       }
 
 abbrev row : tie.After-actives-fit → tie.After-most-in
@@ -50,28 +50,13 @@ walk k = k .before .before
 abbrev active : tie.After-waitings-hold → tie.Else2
 active w = w .before .before .before
 
-figures-hold-requires : tie.Need-figures-hold-requires
-figures-hold-requires c κs = search needs
-
-unsound-requires : tie.Need-unsound-requires
-unsound-requires c κs = tt
-
 returns : tie.Need-returns
 returns c =
     let f = c .before in
     wrong (f .before .before .before) 0 (c .unsound .ensures) (failed (f .before .figures-hold .ensures) (f .if1 .taken))
 
-most-in-requires : tie.Need-most-in-requires
-most-in-requires c κs = search needs
-
-slice-aggregate-actives-fit : tie.Need-slice-aggregate-actives-fit
-slice-aggregate-actives-fit c = search needs
-
 actives-fit-requires : tie.Need-actives-fit-requires
 actives-fit-requires c κs = ready (c .before)
-
-unsound-requires-2 : tie.Need-unsound-requires-2
-unsound-requires-2 c κs = tt
 
 returns-2 : tie.Need-returns-2
 returns-2 c =
@@ -79,17 +64,11 @@ returns-2 c =
     let a = f .before .before in
     wrong (start (row a)) 1 (c .unsound2 .ensures) (failed (a .actives-fit .ensures .0) (f .if2 .taken))
 
-slice-aggregate-waitings-hold : tie.Need-slice-aggregate-waitings-hold
-slice-aggregate-waitings-hold c = search needs
-
 waitings-hold-requires : tie.Need-waitings-hold-requires
 waitings-hold-requires c κs =
     let k = c .before .before in
     let a = walk k in
     (ready (row a), a .actives-fit .ensures .1 .1 (not-false _ (k .if2 .left)))
-
-unsound-requires-3 : tie.Need-unsound-requires-3
-unsound-requires-3 c κs = tt
 
 returns-3 : tie.Need-returns-3
 returns-3 c =
@@ -115,16 +94,16 @@ pub is-sound-spec : {M : Type 1} → statement M
 is-sound-spec =
     tie.close
     (tie.spec
-    figures-hold-requires
-    unsound-requires
+    (λ c κs. search needs)
+    (λ c κs. tt)
     returns
-    most-in-requires
-    slice-aggregate-actives-fit
+    (λ c κs. search needs)
+    (λ c. search needs)
     actives-fit-requires
-    unsound-requires-2
+    (λ c κs. tt)
     returns-2
-    slice-aggregate-waitings-hold
+    (λ c. search needs)
     waitings-hold-requires
-    unsound-requires-3
+    (λ c κs. tt)
     returns-3
     returns-4)

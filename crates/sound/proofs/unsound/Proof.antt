@@ -3,11 +3,8 @@ use borrow.Author.Needs.{needs}
 use Rattle.sound.proofs.unsound.Statement.{statement}
 use Rattle.sound.proofs.unsound.Tie as tie
 
-no-totals-requires : tie.Need-no-totals-requires
-no-totals-requires c κs = search needs
-
 returns : tie.Need-returns
 returns c = rw (c .no-totals .ensures)
 
 pub unsound-spec : {M : Type 1} → statement M
-unsound-spec = tie.close (tie.spec no-totals-requires returns)
+unsound-spec = tie.close (tie.spec (λ c κs. search needs) returns)

@@ -29,26 +29,8 @@ text-is c =
     ap (λ d. linesOf (a .number) d (t .step .last .1 .1 .0)) (c .disk-shown .ensures)
     ∙ ap (λ (s : Stepped). linesOf (a .number) (shownDisk (s .code) (a .r .now)) (s .answer)) (t .step .ensures)
 
-slice-aggregate-step : tie.Need-slice-aggregate-step
-slice-aggregate-step c = search needs
-
-step-requires : tie.Need-step-requires
-step-requires c κs = search needs
-
-disk-shown-requires : tie.Need-disk-shown-requires
-disk-shown-requires c κs = search needs
-
-slice-aggregate-put-lines : tie.Need-slice-aggregate-put-lines
-slice-aggregate-put-lines c = search needs
-
 put-lines-requires : tie.Need-put-lines-requires
 put-lines-requires c κs = (search needs, omega arith)
-
-same-length : tie.Need-same-length
-same-length c = search needs
-
-same-length-2 : tie.Need-same-length-2
-same-length-2 c = search needs
 
 returns : tie.Need-returns
 returns c =
@@ -68,11 +50,11 @@ pub answer-piece-spec : {M : Type 1} → statement M
 answer-piece-spec =
     tie.close
     (tie.spec
-    slice-aggregate-step
-    step-requires
-    disk-shown-requires
-    slice-aggregate-put-lines
+    (λ c. search needs)
+    (λ c κs. search needs)
+    (λ c κs. search needs)
+    (λ c. search needs)
     put-lines-requires
-    same-length
-    same-length-2
+    (λ c. search needs)
+    (λ c. search needs)
     returns)

@@ -91,9 +91,6 @@ Inv-loop board₀ run from last lines₀ length₀ number₀ at₀ to₀ board l
 abbrev μ-loop : tie.MeasureT-loop
 μ-loop board₀ run from last lines₀ length₀ number₀ at₀ to₀ board lines n number at to = length run - at
 
-due-requires : tie.Need-due-requires Inv-loop μ-loop
-due-requires c κs = search needs
-
 loop-holds : tie.Need-loop-holds Inv-loop μ-loop
 loop-holds c = begun (c .due .result) (c .due .ensures)
 
@@ -109,12 +106,6 @@ add-number c =
     let a = s .args in
     omega (arith, p .loop .inv .count, s .pre .1, in-run p (c .loop-test .taken), c .loop-test .taken)
 
-sub-answer-piece : tie.Need-sub-answer-piece Inv-loop μ-loop
-sub-answer-piece c = search needs
-
-part-answer-piece-start : tie.Need-part-answer-piece-start Inv-loop μ-loop
-part-answer-piece-start c = search needs
-
 part-answer-piece-end : tie.Need-part-answer-piece-end Inv-loop μ-loop
 part-answer-piece-end c = in-run (c .before .before) (c .before .loop-test .taken)
 
@@ -123,9 +114,6 @@ answer-piece-requires c κs =
     let t = c .before .before .before in
     let p = t .before in
     free (p .loop .inv) (p .before .before .before .before .before .pre .0) (t .loop-test .taken)
-
-due-requires-2 : tie.Need-due-requires-2 Inv-loop μ-loop
-due-requires-2 c κs = search needs
 
 loop-less : tie.Need-loop-less Inv-loop μ-loop
 loop-less c =
@@ -160,14 +148,14 @@ answer-run-spec =
     (tie.spec
     Inv-loop
     μ-loop
-    due-requires
+    (λ c κs. search needs)
     loop-holds
     add-number
-    sub-answer-piece
-    part-answer-piece-start
+    (λ c. search needs)
+    (λ c. search needs)
     part-answer-piece-end
     answer-piece-requires
-    due-requires-2
+    (λ c κs. search needs)
     loop-less
     loop-again
     same-length

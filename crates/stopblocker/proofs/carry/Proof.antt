@@ -54,26 +54,8 @@ Inv-loop run₀ at end n i₀ run i = Moved run₀ at end run i
 abbrev μ-loop : tie.MeasureT-loop
 μ-loop run₀ at end n i₀ run i = n - i
 
-sub-n : tie.Need-sub-n Inv-loop μ-loop
-sub-n c = search needs
-
 loop-holds : tie.Need-loop-holds Inv-loop μ-loop
 loop-holds c = let a = c .args in begun (a .run .now) (a .at) (a .«end»)
-
-add-run : tie.Need-add-run Inv-loop μ-loop
-add-run c = search needs
-
-slice-read-run : tie.Need-slice-read-run Inv-loop μ-loop
-slice-read-run c = search needs
-
-slice-write-run : tie.Need-slice-write-run Inv-loop μ-loop
-slice-write-run c = search needs
-
-add-i : tie.Need-add-i Inv-loop μ-loop
-add-i c = search needs
-
-loop-less : tie.Need-loop-less Inv-loop μ-loop
-loop-less c = search needs
 
 loop-again : tie.Need-loop-again Inv-loop μ-loop
 loop-again c =
@@ -96,13 +78,13 @@ carry-spec =
     (tie.spec
     Inv-loop
     μ-loop
-    sub-n
+    (λ c. search needs)
     loop-holds
-    add-run
-    slice-read-run
-    slice-write-run
-    add-i
-    loop-less
+    (λ c. search needs)
+    (λ c. search needs)
+    (λ c. search needs)
+    (λ c. search needs)
+    (λ c. search needs)
     loop-again
     same-length
     returns)

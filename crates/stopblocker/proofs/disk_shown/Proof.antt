@@ -17,12 +17,9 @@ returns-2 c =
     let a = c .before .before .args in
     rw (ne-eqb (a .code) 10 (c .before .if1 .left)) (sym (List·getD-eq-default (a .r .now) 0 {n = 3} (c .if2 .taken)))
 
-shared-slice-read-result : tie.Need-shared-slice-read-result
-shared-slice-read-result c = search needs
-
 returns-3 : tie.Need-returns-3
 unfolding shownDisk
 returns-3 c = rw (ne-eqb (c .before .before .before .args .code) 10 (c .before .before .if1 .left))
 
 pub disk-shown-spec : {M : Type 1} → statement M
-disk-shown-spec = tie.close (tie.spec returns returns-2 shared-slice-read-result returns-3)
+disk-shown-spec = tie.close (tie.spec returns returns-2 (λ c. search needs) returns-3)

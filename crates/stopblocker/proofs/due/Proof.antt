@@ -6,18 +6,6 @@ use borrow.Author.Needs.{needs}
 use Rattle.stopblocker.proofs.due.Statement.{statement}
 use Rattle.stopblocker.proofs.due.Tie as tie
 
-piece-in-requires : tie.Need-piece-in-requires
-piece-in-requires c κs = search needs
-
-enum-known-to : tie.Need-enum-known-to
-enum-known-to c = search needs
-
-enum-known-to-2 : tie.Need-enum-known-to-2
-enum-known-to-2 c = search needs
-
-enum-told : tie.Need-enum-told
-enum-told c = search needs
-
 returns : tie.Need-returns
 returns c =
     let p = c .before .before .before in
@@ -50,10 +38,10 @@ pub due-spec : {M : Type 1} → statement M
 due-spec =
     tie.close
     (tie.spec
-    piece-in-requires
-    enum-known-to
-    enum-known-to-2
-    enum-told
+    (λ c κs. search needs)
+    (λ c. search needs)
+    (λ c. search needs)
+    (λ c. search needs)
     returns
     returns-2
     returns-3

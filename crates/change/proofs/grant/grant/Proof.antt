@@ -61,19 +61,10 @@ noted n =
     let g = disk-good (raised (at-raise n)) in
     holds-disk (n .note .ensures) (record { active = g .active; waiting = g .waiting })
 
-actives-at-requires : tie.Need-actives-at-requires
-actives-at-requires c κs = search needs
-
-is-reading-requires : tie.Need-is-reading-requires
-is-reading-requires c κs = search needs
-
 put-last-requires : tie.Need-put-last-requires
 put-last-requires c κs =
     let t = c .before .before in
     (at-start t .pre .0, room t)
-
-same-length : tie.Need-same-length
-same-length c = search needs
 
 returns : tie.Need-returns
 returns c =
@@ -103,9 +94,6 @@ put-last-requires-2 c κs =
     let n = c .before .before .before in
     (noted n, room (at-test (at-raise n)))
 
-same-length-2 : tie.Need-same-length-2
-same-length-2 c = search needs
-
 returns-2 : tie.Need-returns-2
 returns-2 c =
     let n = c .before .before .before .before .before .before in
@@ -119,13 +107,13 @@ pub grant-spec : {M : Type 1} → statement M
 grant-spec =
     tie.close
     (tie.spec
-    actives-at-requires
-    is-reading-requires
+    (λ c κs. search needs)
+    (λ c κs. search needs)
     put-last-requires
-    same-length
+    (λ c. search needs)
     returns
     raise-on-requires
     note-requires
     put-last-requires-2
-    same-length-2
+    (λ c. search needs)
     returns-2)

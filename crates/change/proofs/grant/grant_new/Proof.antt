@@ -24,12 +24,6 @@ clock-put p =
     let z = at-start p in
     clocked-holds (disk-holds (z .pre .0) (λ i. p .before .before .before .slice-known .given i .fits)) (p .put-numbers .ensures) (z .fits .second .fits) (omega (arith, z .pre .1 .0 .ticket))
 
-add-put-numbers : tie.Need-add-put-numbers
-add-put-numbers c = search needs
-
-put-numbers-requires : tie.Need-put-numbers-requires
-put-numbers-requires c κs = search needs
-
 grant-requires : tie.Need-grant-requires
 grant-requires c κs =
     let p = c .before .before .before in
@@ -39,9 +33,6 @@ grant-requires c κs =
       holds-disk (clock-put p) (record { active = t .good .active; waiting = t .good .waiting }),
       rw (holds-decode (clock-put p)) (t .may, (toZ-ofZ told ∙ z .pre .1 .1, t .counts)),
     )
-
-same-length : tie.Need-same-length
-same-length c = search needs
 
 returns : tie.Need-returns
 unfolding grantedOf
@@ -54,8 +45,8 @@ pub grant-new-spec : {M : Type 1} → statement M
 grant-new-spec =
     tie.close
     (tie.spec
-    add-put-numbers
-    put-numbers-requires
+    (λ c. search needs)
+    (λ c κs. search needs)
     grant-requires
-    same-length
+    (λ c. search needs)
     returns)

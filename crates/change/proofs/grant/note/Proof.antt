@@ -16,21 +16,6 @@ whole k = disk-holds (k .before .pre .0) (λ i. k .slice-known .given i .fits)
 fits : (z : tie.Start) → z .args .total < 2 ^ 32
 fits z = omega (arith, z .fits .total)
 
-writes-requires : tie.Need-writes-requires
-writes-requires c κs = search needs
-
-share-requires : tie.Need-share-requires
-share-requires c κs = search needs
-
-add-put-word : tie.Need-add-put-word
-add-put-word c = search needs
-
-put-word-requires : tie.Need-put-word-requires
-put-word-requires c κs = search needs
-
-same-length : tie.Need-same-length
-same-length c = search needs
-
 returns : tie.Need-returns
 returns c =
     let t = c .before .before .before .before in
@@ -38,18 +23,6 @@ returns c =
     let z = m .before .before in
     rw (c .before .before .put-word .ensures)
     (note-used (whole (m .before)) (z .args .m) (z .args .total) (fits z) (m .writes .ensures) (t .before .share .ensures) (t .if1 .taken))
-
-share-requires-2 : tie.Need-share-requires-2
-share-requires-2 c κs = search needs
-
-add-put-word-2 : tie.Need-add-put-word-2
-add-put-word-2 c = search needs
-
-put-word-requires-2 : tie.Need-put-word-requires-2
-put-word-requires-2 c κs = search needs
-
-same-length-2 : tie.Need-same-length-2
-same-length-2 c = search needs
 
 returns-2 : tie.Need-returns-2
 returns-2 c =
@@ -71,15 +44,15 @@ pub note-spec : {M : Type 1} → statement M
 note-spec =
     tie.close
     (tie.spec
-    writes-requires
-    share-requires
-    add-put-word
-    put-word-requires
-    same-length
+    (λ c κs. search needs)
+    (λ c κs. search needs)
+    (λ c. search needs)
+    (λ c κs. search needs)
+    (λ c. search needs)
     returns
-    share-requires-2
-    add-put-word-2
-    put-word-requires-2
-    same-length-2
+    (λ c κs. search needs)
+    (λ c. search needs)
+    (λ c κs. search needs)
+    (λ c. search needs)
     returns-2
     returns-3)

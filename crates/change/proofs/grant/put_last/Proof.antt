@@ -11,26 +11,8 @@ use Rattle.change.proofs.grant.put_last.Tie as tie
 whole : (k : tie.After-slice-known) → Holds (k .before .args .s .now) (decode (k .before .args .s .now))
 whole k = disk-holds (k .before .pre .0) (λ i. k .slice-known .given i .fits)
 
-sub-put-slot : tie.Need-sub-put-slot
-sub-put-slot c = search needs
-
-part-put-slot-start : tie.Need-part-put-slot-start
-part-put-slot-start c = search needs
-
-part-put-slot-end : tie.Need-part-put-slot-end
-part-put-slot-end c = search needs
-
 put-slot-requires : tie.Need-put-slot-requires
 put-slot-requires c κs = (active-lent (whole (c .before)), search needs)
-
-add-put-word : tie.Need-add-put-word
-add-put-word c = search needs
-
-put-word-requires : tie.Need-put-word-requires
-put-word-requires c κs = search needs
-
-same-length : tie.Need-same-length
-same-length c = search needs
 
 returns : tie.Need-returns
 returns c =
@@ -42,11 +24,11 @@ pub put-last-spec : {M : Type 1} → statement M
 put-last-spec =
     tie.close
     (tie.spec
-    sub-put-slot
-    part-put-slot-start
-    part-put-slot-end
+    (λ c. search needs)
+    (λ c. search needs)
+    (λ c. search needs)
     put-slot-requires
-    add-put-word
-    put-word-requires
-    same-length
+    (λ c. search needs)
+    (λ c κs. search needs)
+    (λ c. search needs)
     returns)

@@ -32,27 +32,6 @@ raise-is r =
     r .raise-of .ensures .0
     ∙ (λ i. raiseOf (figuresOf (promised .before .before .used-at .ensures i) (promised .promised-at .ensures i) (state .state-at .ensures i)) (at-start r .before .args .c))
 
-used-at-requires : tie.Need-used-at-requires
-used-at-requires c κs = search needs
-
-promised-at-requires : tie.Need-promised-at-requires
-promised-at-requires c κs = search needs
-
-state-at-requires : tie.Need-state-at-requires
-state-at-requires c κs = search needs
-
-raise-of-requires : tie.Need-raise-of-requires
-raise-of-requires c κs = search needs
-
-sub-raise-all : tie.Need-sub-raise-all
-sub-raise-all c = search needs
-
-part-raise-all-start : tie.Need-part-raise-all-start
-part-raise-all-start c = search needs
-
-part-raise-all-end : tie.Need-part-raise-all-end
-part-raise-all-end c = search needs
-
 raise-all-requires : tie.Need-raise-all-requires
 raise-all-requires c κs =
     let k = at-start (c .before) in
@@ -61,9 +40,6 @@ raise-all-requires c κs =
     let n = z .pre .1 .1 .1 in
     let within = raisable (decode (z .args .s .now)) (z .args .c) good (z .pre .1 .0) (z .pre .1 .1 .0) n (raise-is (c .before)) (active-slots (whole k)) in
     (active-lent (whole k), (omega (arith, n, good .active .few), within))
-
-same-length : tie.Need-same-length
-same-length c = search needs
 
 returns : tie.Need-returns
 returns c =
@@ -78,13 +54,13 @@ pub raise-on-spec : {M : Type 1} → statement M
 raise-on-spec =
     tie.close
     (tie.spec
-    used-at-requires
-    promised-at-requires
-    state-at-requires
-    raise-of-requires
-    sub-raise-all
-    part-raise-all-start
-    part-raise-all-end
+    (λ c κs. search needs)
+    (λ c κs. search needs)
+    (λ c κs. search needs)
+    (λ c κs. search needs)
+    (λ c. search needs)
+    (λ c. search needs)
+    (λ c. search needs)
     raise-all-requires
-    same-length
+    (λ c. search needs)
     returns)

@@ -48,9 +48,6 @@ still : (l : tie.After-land) → slots 8 (take 352 (drop 64 (l .land .last .0)))
 unfolding landOf
 still l = active-slots (landed l)
 
-actives-at-requires : tie.Need-actives-at-requires
-actives-at-requires c κs = search needs
-
 active-at-requires : tie.Need-active-at-requires
 active-at-requires c κs =
     let z = c .before .before .before .before .before in
@@ -61,18 +58,6 @@ land-requires c κs =
     let z = c .before .before .before .before .before .before in
     (z .pre .0 .disk, rw (c .active-at .ensures) (lands z))
 
-sub-take-out : tie.Need-sub-take-out
-sub-take-out c = search needs
-
-part-take-out-start : tie.Need-part-take-out-start
-part-take-out-start c = search needs
-
-part-take-out-end : tie.Need-part-take-out-end
-part-take-out-end c = search needs
-
-cast-take-out : tie.Need-cast-take-out
-cast-take-out c = search needs
-
 take-out-requires : tie.Need-take-out-requires
 take-out-requires c κs =
     let l = c .before .before .before in
@@ -82,12 +67,6 @@ sub-put-numbers : tie.Need-sub-put-numbers
 sub-put-numbers c =
     let l = c .before .before .before .before .before .before .before in
     omega (arith, at-count l .actives-at .ensures, at-start l .pre .1)
-
-put-numbers-requires : tie.Need-put-numbers-requires
-put-numbers-requires c κs = search needs
-
-same-length : tie.Need-same-length
-same-length c = search needs
 
 returns : tie.Need-returns
 returns c =
@@ -101,15 +80,15 @@ pub end-spec : {M : Type 1} → statement M
 end-spec =
     tie.close
     (tie.spec
-    actives-at-requires
+    (λ c κs. search needs)
     active-at-requires
     land-requires
-    sub-take-out
-    part-take-out-start
-    part-take-out-end
-    cast-take-out
+    (λ c. search needs)
+    (λ c. search needs)
+    (λ c. search needs)
+    (λ c. search needs)
     take-out-requires
     sub-put-numbers
-    put-numbers-requires
-    same-length
+    (λ c κs. search needs)
+    (λ c. search needs)
     returns)

@@ -67,74 +67,26 @@ sum-is k =
     rw (toZ-ofZ (record { sfits = k .before .before .struct-told4 .given .0 .1 }), toZ-ofZ (fits (at-start k) .0)) at (k .plus .ensures .0) in
     e ∙ ap (λ (x : Attr). x .value +ℤ w .value) (p .ensures)
 
-sets-requires : tie.Need-sets-requires
-sets-requires c κs = search needs
-
-share-requires : tie.Need-share-requires
-share-requires c κs = search needs
-
-store-requires : tie.Need-store-requires
-store-requires c κs = search needs
-
-same-length : tie.Need-same-length
-same-length c = search needs
-
 returns : tie.Need-returns
 returns c =
     let t = c .before .before .before .before .before in
     stored (t .before .before) a0 (c .before .before .store .ensures) (t .before .share .ensures) (t .if1 .taken)
-
-share-requires-2 : tie.Need-share-requires-2
-share-requires-2 c κs = search needs
-
-store-requires-2 : tie.Need-store-requires-2
-store-requires-2 c κs = search needs
-
-same-length-2 : tie.Need-same-length-2
-same-length-2 c = search needs
 
 returns-2 : tie.Need-returns-2
 returns-2 c =
     let t = c .before .before .before .before .before in
     stored (at-sets2 (t .before)) a1 (c .before .before .store2 .ensures) (t .before .share2 .ensures) (t .if2 .taken)
 
-share-requires-3 : tie.Need-share-requires-3
-share-requires-3 c κs = search needs
-
-store-requires-3 : tie.Need-store-requires-3
-store-requires-3 c κs = search needs
-
-same-length-3 : tie.Need-same-length-3
-same-length-3 c = search needs
-
 returns-3 : tie.Need-returns-3
 returns-3 c =
     let t = c .before .before .before .before .before in
     stored (at-sets3 (t .before)) a2 (c .before .before .store3 .ensures) (t .before .share3 .ensures) (t .if3 .taken)
-
-adds-requires : tie.Need-adds-requires
-adds-requires c κs = search needs
-
-share-requires-4 : tie.Need-share-requires-4
-share-requires-4 c κs = search needs
-
-promised-at-requires : tie.Need-promised-at-requires
-promised-at-requires c κs = search needs
-
-plus-requires : tie.Need-plus-requires
-plus-requires c κs = search needs
 
 narrow-requires : tie.Need-narrow-requires
 narrow-requires c κs =
     let a = at-start c .args in
     rw (toZ-ofZ (record { sfits = c .plus .ok }), sum-is c)
     (omega (arith, size-add (decode (a .s .now) .promised .value) (a .w .value), at-start c .pre .1))
-
-put-signed-requires : tie.Need-put-signed-requires
-put-signed-requires c κs = search needs
-
-same-length-4 : tie.Need-same-length-4
-same-length-4 c = search needs
 
 returns-4 : tie.Need-returns-4
 returns-4 c =
@@ -160,25 +112,25 @@ pub land-spec : {M : Type 1} → statement M
 land-spec =
     tie.close
     (tie.spec
-    sets-requires
-    share-requires
-    store-requires
-    same-length
+    (λ c κs. search needs)
+    (λ c κs. search needs)
+    (λ c κs. search needs)
+    (λ c. search needs)
     returns
-    share-requires-2
-    store-requires-2
-    same-length-2
+    (λ c κs. search needs)
+    (λ c κs. search needs)
+    (λ c. search needs)
     returns-2
-    share-requires-3
-    store-requires-3
-    same-length-3
+    (λ c κs. search needs)
+    (λ c κs. search needs)
+    (λ c. search needs)
     returns-3
-    adds-requires
-    share-requires-4
-    promised-at-requires
-    plus-requires
+    (λ c κs. search needs)
+    (λ c κs. search needs)
+    (λ c κs. search needs)
+    (λ c κs. search needs)
     narrow-requires
-    put-signed-requires
-    same-length-4
+    (λ c κs. search needs)
+    (λ c. search needs)
     returns-4
     returns-5)

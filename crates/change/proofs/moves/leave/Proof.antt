@@ -13,36 +13,12 @@ use Rattle.change.proofs.moves.leave.Tie as tie
 whole : (k : tie.After-slice-known) → Holds (k .before .args .s .now) (decode (k .before .args .s .now))
 whole k = disk-holds (k .before .pre .0) (λ i. k .slice-known .given i .fits)
 
-waitings-at-requires : tie.Need-waitings-at-requires
-waitings-at-requires c κs = search needs
-
-sub-take-out : tie.Need-sub-take-out
-sub-take-out c = search needs
-
-part-take-out-start : tie.Need-part-take-out-start
-part-take-out-start c = search needs
-
-part-take-out-end : tie.Need-part-take-out-end
-part-take-out-end c = search needs
-
-cast-take-out : tie.Need-cast-take-out
-cast-take-out c = search needs
-
 take-out-requires : tie.Need-take-out-requires
 take-out-requires c κs =
     let n = c .before in
     let k = n .before .before in
     let z = k .before in
     (waiting-lent (whole k), rw (waiting-slots (whole k), n .waitings-at .ensures) (disk-good (z .pre .0) .waiting, z .pre .1))
-
-sub-put-numbers : tie.Need-sub-put-numbers
-sub-put-numbers c = search needs
-
-put-numbers-requires : tie.Need-put-numbers-requires
-put-numbers-requires c κs = search needs
-
-same-length : tie.Need-same-length
-same-length c = search needs
 
 returns : tie.Need-returns
 returns c =
@@ -57,13 +33,13 @@ pub leave-spec : {M : Type 1} → statement M
 leave-spec =
     tie.close
     (tie.spec
-    waitings-at-requires
-    sub-take-out
-    part-take-out-start
-    part-take-out-end
-    cast-take-out
+    (λ c κs. search needs)
+    (λ c. search needs)
+    (λ c. search needs)
+    (λ c. search needs)
+    (λ c. search needs)
     take-out-requires
-    sub-put-numbers
-    put-numbers-requires
-    same-length
+    (λ c. search needs)
+    (λ c κs. search needs)
+    (λ c. search needs)
     returns)

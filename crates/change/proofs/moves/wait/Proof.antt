@@ -16,21 +16,6 @@ use Rattle.change.proofs.moves.wait.Tie as tie
 whole : (k : tie.After-slice-known) → Holds (k .before .args .s .now) (decode (k .before .args .s .now))
 whole k = disk-holds (k .before .pre .0) (λ i. k .slice-known .given i .fits)
 
-waitings-at-requires : tie.Need-waitings-at-requires
-waitings-at-requires c κs = search needs
-
-sub-queue-in : tie.Need-sub-queue-in
-sub-queue-in c = search needs
-
-part-queue-in-start : tie.Need-part-queue-in-start
-part-queue-in-start c = search needs
-
-part-queue-in-end : tie.Need-part-queue-in-end
-part-queue-in-end c = search needs
-
-cast-queue-in : tie.Need-cast-queue-in
-cast-queue-in c = search needs
-
 queue-in-requires : tie.Need-queue-in-requires
 queue-in-requires c κs =
     let n = c .before in
@@ -38,20 +23,8 @@ queue-in-requires c κs =
     let z = k .before in
     (waiting-lent (whole k), rw (waiting-slots (whole k), n .waitings-at .ensures) (disk-good (z .pre .0) .waiting, z .pre .1 .0))
 
-add-put-numbers : tie.Need-add-put-numbers
-add-put-numbers c = search needs
-
-put-numbers-requires : tie.Need-put-numbers-requires
-put-numbers-requires c κs = search needs
-
-add-put-word : tie.Need-add-put-word
-add-put-word c = search needs
-
 put-word-requires : tie.Need-put-word-requires
 put-word-requires c κs = search needs
-
-same-length : tie.Need-same-length
-same-length c = search needs
 
 returns : tie.Need-returns
 returns c =
@@ -69,15 +42,15 @@ pub wait-spec : {M : Type 1} → statement M
 wait-spec =
     tie.close
     (tie.spec
-    waitings-at-requires
-    sub-queue-in
-    part-queue-in-start
-    part-queue-in-end
-    cast-queue-in
+    (λ c κs. search needs)
+    (λ c. search needs)
+    (λ c. search needs)
+    (λ c. search needs)
+    (λ c. search needs)
     queue-in-requires
-    add-put-numbers
-    put-numbers-requires
-    add-put-word
+    (λ c. search needs)
+    (λ c κs. search needs)
+    (λ c. search needs)
     put-word-requires
-    same-length
+    (λ c. search needs)
     returns)

@@ -9,12 +9,9 @@ returns : tie.Need-returns
 unfolding countOf
 returns c = rw (ne-eqb _ _ (c .if1 .taken))
 
-open-count-requires : tie.Need-open-count-requires
-open-count-requires c κs = search needs
-
 returns-2 : tie.Need-returns-2
 unfolding countOf
 returns-2 c = rw (eq-eqb _ _ (c .before .if1 .left), c .open-count .ensures .0)
 
 pub open-disks-spec : {M : Type 1} → statement M
-open-disks-spec = tie.close (tie.spec returns open-count-requires returns-2)
+open-disks-spec = tie.close (tie.spec returns (λ c κs. search needs) returns-2)

@@ -21,20 +21,8 @@ start k = k .before .before .before .before .before .before
 fits : (k : tie.After-limits-fit) → k .limits-fit .result ≡ limitsFit (usedLimit (start k .args .r .now)) (promisedLimit (start k .args .r .now))
 fits k = k .limits-fit .ensures ∙ (λ i. limitsFit (k .before .before .word-at .ensures i) (k .before .word-at2 .ensures i))
 
-word-at-requires : tie.Need-word-at-requires
-word-at-requires c κs = search needs
-
-word-at-requires-2 : tie.Need-word-at-requires-2
-word-at-requires-2 c κs = search needs
-
-limits-fit-requires : tie.Need-limits-fit-requires
-limits-fit-requires c κs = search needs
-
 refuse-requires : tie.Need-refuse-requires
 refuse-requires c κs = c .before .before .before .before .before .before .before .before .pre .1 .1 .0
-
-same-length : tie.Need-same-length
-same-length c = search needs
 
 returns : tie.Need-returns
 returns c =
@@ -44,23 +32,11 @@ returns c =
     open-refused (a .board .now) (a .d) (nowOf (a .r .now)) (usedLimit (a .r .now)) (promisedLimit (a .r .now))
     (sym (fits k) ∙ not-true _ (c .before .before .before .before .if1 .taken)) (step-refusing (a .board .now) R.Field (e .0) (e .1))
 
-word-at-requires-3 : tie.Need-word-at-requires-3
-word-at-requires-3 c κs = search needs
-
-opened-requires : tie.Need-opened-requires
-opened-requires c κs = search needs
-
 put-open-requires : tie.Need-put-open-requires
 put-open-requires c κs = let s = c .before .before .before .before .before .before .before .before .before .before in (s .pre .0, s .pre .1 .1 .1)
 
 put-answer-requires : tie.Need-put-answer-requires
 put-answer-requires c κs = c .before .before .before .before .before .before .before .before .before .before .before .before .before .before .pre .1 .1 .0
-
-same-length-2 : tie.Need-same-length-2
-same-length-2 c = search needs
-
-same-length-3 : tie.Need-same-length-3
-same-length-3 c = search needs
 
 returns-2 : tie.Need-returns-2
 returns-2 c =
@@ -76,16 +52,16 @@ pub open-on-spec : {M : Type 1} → statement M
 open-on-spec =
     tie.close
     (tie.spec
-    word-at-requires
-    word-at-requires-2
-    limits-fit-requires
+    (λ c κs. search needs)
+    (λ c κs. search needs)
+    (λ c κs. search needs)
     refuse-requires
-    same-length
+    (λ c. search needs)
     returns
-    word-at-requires-3
-    opened-requires
+    (λ c κs. search needs)
+    (λ c κs. search needs)
     put-open-requires
     put-answer-requires
-    same-length-2
-    same-length-3
+    (λ c. search needs)
+    (λ c. search needs)
     returns-2)

@@ -11,24 +11,6 @@ use Rattle.desk.proofs.FrameLaws.{wide, put-part}
 use Rattle.desk.proofs.board.put_open.Statement.{statement}
 use Rattle.desk.proofs.board.put_open.Tie as tie
 
-mul-a : tie.Need-mul-a
-mul-a c = search needs
-
-add-a : tie.Need-add-a
-add-a c = search needs
-
-add-e : tie.Need-add-e
-add-e c = search needs
-
-sub-put-disk : tie.Need-sub-put-disk
-sub-put-disk c = search needs
-
-part-put-disk-start : tie.Need-part-put-disk-start
-part-put-disk-start c = search needs
-
-part-put-disk-end : tie.Need-part-put-disk-end
-part-put-disk-end c = search needs
-
 put-disk-requires : tie.Need-put-disk-requires
 put-disk-requires c κs =
     let a = c .before .before .args in
@@ -36,9 +18,6 @@ put-disk-requires c κs =
 
 set-open-requires : tie.Need-set-open-requires
 set-open-requires c κs = (c .before .before .before .before .before .before .pre .1, search needs)
-
-same-length : tie.Need-same-length
-same-length c = search needs
 
 returns : tie.Need-returns
 returns c =
@@ -52,13 +31,13 @@ pub put-open-spec : {M : Type 1} → statement M
 put-open-spec =
     tie.close
     (tie.spec
-    mul-a
-    add-a
-    add-e
-    sub-put-disk
-    part-put-disk-start
-    part-put-disk-end
+    (λ c. search needs)
+    (λ c. search needs)
+    (λ c. search needs)
+    (λ c. search needs)
+    (λ c. search needs)
+    (λ c. search needs)
     put-disk-requires
     set-open-requires
-    same-length
+    (λ c. search needs)
     returns)

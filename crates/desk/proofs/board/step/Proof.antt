@@ -9,32 +9,17 @@ use Rattle.desk.proofs.FrameLaws.{formed-length, step-refusing, board-l
 use Rattle.desk.proofs.board.step.Statement.{statement}
 use Rattle.desk.proofs.board.step.Tie as tie
 
-number-requires : tie.Need-number-requires
-number-requires c κs = search needs
-
 returns : tie.Need-returns
 returns c =
     let a = c .before .before .before .before .before .args in
     ap (λ (n : ℕ). stepped n (a .board .now) (a .answer .now)) (c .number .ensures)
     ∙ board-length (a .board .now) (a .r .now) (a .answer .now) (c .before .if1 .taken)
 
-number-requires-2 : tie.Need-number-requires-2
-number-requires-2 c κs = search needs
-
 returns-2 : tie.Need-returns-2
 returns-2 c =
     let a = c .before .before .before .before .before .before .args in
     ap (λ (n : ℕ). stepped n (a .board .now) (a .answer .now)) (c .number2 .ensures)
     ∙ answer-length (a .board .now) (a .r .now) (a .answer .now) (c .before .before .if1 .left) (c .before .if2 .taken)
-
-well-formed-requires : tie.Need-well-formed-requires
-well-formed-requires c κs = search needs
-
-refuse-requires : tie.Need-refuse-requires
-refuse-requires c κs = search needs
-
-same-length : tie.Need-same-length
-same-length c = search needs
 
 returns-3 : tie.Need-returns-3
 returns-3 c =
@@ -49,12 +34,6 @@ on-board-requires c κs = (
   (formed-length (c .before .before .before .before .before .before .before .before .before .args .r .now) (sym (c .before .before .before .well-formed .ensures) ∙ not-false _ (c .before .before .if3 .left)), c .before .before .before .before .if2 .left),
 )
 
-same-length-2 : tie.Need-same-length-2
-same-length-2 c = search needs
-
-same-length-3 : tie.Need-same-length-3
-same-length-3 c = search needs
-
 returns-4 : tie.Need-returns-4
 returns-4 c =
     let a = c .before .before .before .before .before .before .before .before .before .before .before .before .before .before .args in
@@ -65,15 +44,15 @@ pub step-spec : {M : Type 1} → statement M
 step-spec =
     tie.close
     (tie.spec
-    number-requires
+    (λ c κs. search needs)
     returns
-    number-requires-2
+    (λ c κs. search needs)
     returns-2
-    well-formed-requires
-    refuse-requires
-    same-length
+    (λ c κs. search needs)
+    (λ c κs. search needs)
+    (λ c. search needs)
     returns-3
     on-board-requires
-    same-length-2
-    same-length-3
+    (λ c. search needs)
+    (λ c. search needs)
     returns-4)

@@ -16,21 +16,6 @@ at-count n = n .before .before
 holds : (n : tie.After-actives-at) → Holds (at-count n .args .s .now) (decode (at-count n .args .s .now))
 holds n = disk-holds (at-count n .pre) (λ i. n .before .shared-slice-known .given i .fits)
 
-actives-at-requires : tie.Need-actives-at-requires
-actives-at-requires c κs = search needs
-
-cast-n : tie.Need-cast-n
-cast-n c = search needs
-
-sub-find-in : tie.Need-sub-find-in
-sub-find-in c = search needs
-
-part-find-in-start : tie.Need-part-find-in-start
-part-find-in-start c = search needs
-
-part-find-in-end : tie.Need-part-find-in-end
-part-find-in-end c = search needs
-
 find-in-requires : tie.Need-find-in-requires
 find-in-requires c κs = (active-lent (holds (c .before)), rw (active-slots (holds (c .before))) (active-row (at-count (c .before) .pre) (c .before .actives-at .ensures)))
 
@@ -43,10 +28,10 @@ pub find-active-spec : {M : Type 1} → statement M
 find-active-spec =
     tie.close
     (tie.spec
-    actives-at-requires
-    cast-n
-    sub-find-in
-    part-find-in-start
-    part-find-in-end
+    (λ c κs. search needs)
+    (λ c. search needs)
+    (λ c. search needs)
+    (λ c. search needs)
+    (λ c. search needs)
     find-in-requires
     returns)

@@ -16,21 +16,6 @@ at-count n = n .before .before
 holds : (n : tie.After-waitings-at) → Holds (at-count n .args .s .now) (decode (at-count n .args .s .now))
 holds n = disk-holds (at-count n .pre) (λ i. n .before .shared-slice-known .given i .fits)
 
-waitings-at-requires : tie.Need-waitings-at-requires
-waitings-at-requires c κs = search needs
-
-cast-n : tie.Need-cast-n
-cast-n c = search needs
-
-sub-find-in : tie.Need-sub-find-in
-sub-find-in c = search needs
-
-part-find-in-start : tie.Need-part-find-in-start
-part-find-in-start c = search needs
-
-part-find-in-end : tie.Need-part-find-in-end
-part-find-in-end c = search needs
-
 find-in-requires : tie.Need-find-in-requires
 find-in-requires c κs = (waiting-lent (holds (c .before)), rw (waiting-slots (holds (c .before))) (waiting-row (at-count (c .before) .pre) (c .before .waitings-at .ensures)))
 
@@ -43,10 +28,10 @@ pub find-waiting-spec : {M : Type 1} → statement M
 find-waiting-spec =
     tie.close
     (tie.spec
-    waitings-at-requires
-    cast-n
-    sub-find-in
-    part-find-in-start
-    part-find-in-end
+    (λ c κs. search needs)
+    (λ c. search needs)
+    (λ c. search needs)
+    (λ c. search needs)
+    (λ c. search needs)
     find-in-requires
     returns)

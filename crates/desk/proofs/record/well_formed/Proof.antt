@@ -11,29 +11,17 @@ returns : tie.Need-returns
 unfolding wellFormed
 returns c = rw (ne-eqb _ _ (c .if1 .taken))
 
-shared-slice-read-if2 : tie.Need-shared-slice-read-if2
-shared-slice-read-if2 c = search needs
-
 returns-2 : tie.Need-returns-2
 unfolding wellFormed
 returns-2 c = rw (ne-eqb _ _ (c .if2 .taken)) (simp and-false)
-
-shared-slice-read-if3 : tie.Need-shared-slice-read-if3
-shared-slice-read-if3 c = search needs
 
 returns-3 : tie.Need-returns-3
 unfolding wellFormed
 returns-3 c = rw (ne-eqb _ _ (c .if3 .taken)) (simp and-false)
 
-shared-slice-read-if4 : tie.Need-shared-slice-read-if4
-shared-slice-read-if4 c = search needs
-
 returns-4 : tie.Need-returns-4
 unfolding wellFormed
 returns-4 c = rw (ne-eqb _ _ (c .if4 .taken)) (simp and-false)
-
-shared-slice-read-if5 : tie.Need-shared-slice-read-if5
-shared-slice-read-if5 c = search needs
 
 cast-if5 : tie.Need-cast-if5
 cast-if5 c = record { fits = omega (arith, c .shared-slice-known5 .given 6) }
@@ -41,12 +29,6 @@ cast-if5 c = record { fits = omega (arith, c .shared-slice-known5 .given 6) }
 returns-5 : tie.Need-returns-5
 unfolding wellFormed
 returns-5 c = rw (lt-leb _ _ (c .if5 .taken)) (simp and-false)
-
-shared-slice-read-kind-fits : tie.Need-shared-slice-read-kind-fits
-shared-slice-read-kind-fits c = search needs
-
-kind-fits-requires : tie.Need-kind-fits-requires
-kind-fits-requires c κs = search needs
 
 returns-6 : tie.Need-returns-6
 unfolding wellFormed
@@ -65,15 +47,15 @@ well-formed-spec =
     tie.close
     (tie.spec
     returns
-    shared-slice-read-if2
+    (λ c. search needs)
     returns-2
-    shared-slice-read-if3
+    (λ c. search needs)
     returns-3
-    shared-slice-read-if4
+    (λ c. search needs)
     returns-4
-    shared-slice-read-if5
+    (λ c. search needs)
     cast-if5
     returns-5
-    shared-slice-read-kind-fits
-    kind-fits-requires
+    (λ c. search needs)
+    (λ c κs. search needs)
     returns-6)

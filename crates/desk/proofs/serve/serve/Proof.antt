@@ -7,7 +7,6 @@ use Rattle.law.specs.Types.{Disk as LawDisk}
 use Rattle.law.specs.SoundTest.{says-sound}
 use Rattle.law.specs.DiskType.{diskTable}
 use Rattle.law.specs.Sound.{sound}
-use Rattle.rules.specs.declared.totals.Totals.{Totals}
 use Rattle.rules.specs.Totals.{noTotals, totalsOf}
 use Rattle.part.specs.Layout.{decode, decodes}
 use Rattle.part.specs.Held.{held, HoldsSound}
@@ -53,18 +52,6 @@ module _ (l : tie.Else2) where
 
 -- ---- the needs
 
-decodes-requires : tie.Need-decodes-requires
-decodes-requires c κs = search needs
-
-refuse-requires : tie.Need-refuse-requires
-refuse-requires c κs = search needs
-
-same-length : tie.Need-same-length
-same-length c = search needs
-
-same-length-2 : tie.Need-same-length-2
-same-length-2 c = search needs
-
 returns : tie.Need-returns
 returns c =
     let e = c .before .before .refuse .ensures in
@@ -74,15 +61,6 @@ returns c =
 is-sound-requires : tie.Need-is-sound-requires
 is-sound-requires c κs = record { long = at-1 (c .before) .pre .0; whole = whole (c .before) }
 
-refuse-requires-2 : tie.Need-refuse-requires-2
-refuse-requires-2 c κs = search needs
-
-same-length-3 : tie.Need-same-length-3
-same-length-3 c = search needs
-
-same-length-4 : tie.Need-same-length-4
-same-length-4 c = search needs
-
 returns-2 : tie.Need-returns-2
 returns-2 c =
     let e = c .before .before .refuse2 .ensures in
@@ -90,18 +68,6 @@ returns-2 c =
     let s = at-1 l .args in
     serve-unsound (s .part .now) (whole l) {d = decode (s .part .now)} refl (callOf (s .r .now))
     (sym (ok-is (held (s .part .now)) (c .before .before .before .before .before .before .is-sound .ensures)) ∙ not-true _ (c .before .before .before .before .if2 .taken)) (e .0) (e .1)
-
-shared-slice-read-if3 : tie.Need-shared-slice-read-if3
-shared-slice-read-if3 c = search needs
-
-next-at-requires : tie.Need-next-at-requires
-next-at-requires c κs = search needs
-
-asked-in-requires : tie.Need-asked-in-requires
-asked-in-requires c κs = search needs
-
-word-at-requires : tie.Need-word-at-requires
-word-at-requires c κs = search needs
 
 serve-claim-requires : tie.Need-serve-claim-requires
 serve-claim-requires c κs =
@@ -114,12 +80,6 @@ serve-claim-requires c κs =
       ),
     )
 
-same-length-5 : tie.Need-same-length-5
-same-length-5 c = search needs
-
-same-length-6 : tie.Need-same-length-6
-same-length-6 c = search needs
-
 returns-3 : tie.Need-returns-3
 returns-3 c =
     let l = c .before .before .before .before .before .before .before .before .before .before .before .before .before .before in
@@ -127,20 +87,8 @@ returns-3 c =
     serve-claims (s .part .now) (whole (else-1 l)) {d = decode (s .part .now)} refl (sound-here l) (s .r .now)
     (asked-request (s .r .now) (c .before .before .before .before .before .before .before .before .before .asked-in .ensures) (c .before .before .before .before .before .before .word-at .ensures)) (c .before .before .before .before .before .before .before .before .before .before .before .before .if3 .taken) (c .before .before .before .before .serve-claim .ensures)
 
-word-at-requires-2 : tie.Need-word-at-requires-2
-word-at-requires-2 c κs = search needs
-
-word-at-requires-3 : tie.Need-word-at-requires-3
-word-at-requires-3 c κs = search needs
-
 serve-release-requires : tie.Need-serve-release-requires
 serve-release-requires c κs = let l = c .before .before .before .before .before .before in (holds l, at-2 l .pre .1 .1)
-
-same-length-7 : tie.Need-same-length-7
-same-length-7 c = search needs
-
-same-length-8 : tie.Need-same-length-8
-same-length-8 c = search needs
 
 returns-4 : tie.Need-returns-4
 returns-4 c =
@@ -153,27 +101,27 @@ pub serve-spec : {M : Type 1} → statement M
 serve-spec =
     tie.close
     (tie.spec
-    decodes-requires
-    refuse-requires
-    same-length
-    same-length-2
+    (λ c κs. search needs)
+    (λ c κs. search needs)
+    (λ c. search needs)
+    (λ c. search needs)
     returns
     is-sound-requires
-    refuse-requires-2
-    same-length-3
-    same-length-4
+    (λ c κs. search needs)
+    (λ c. search needs)
+    (λ c. search needs)
     returns-2
-    shared-slice-read-if3
-    next-at-requires
-    asked-in-requires
-    word-at-requires
+    (λ c. search needs)
+    (λ c κs. search needs)
+    (λ c κs. search needs)
+    (λ c κs. search needs)
     serve-claim-requires
-    same-length-5
-    same-length-6
+    (λ c. search needs)
+    (λ c. search needs)
     returns-3
-    word-at-requires-2
-    word-at-requires-3
+    (λ c κs. search needs)
+    (λ c κs. search needs)
     serve-release-requires
-    same-length-7
-    same-length-8
+    (λ c. search needs)
+    (λ c. search needs)
     returns-4)

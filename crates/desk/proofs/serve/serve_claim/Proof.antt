@@ -94,20 +94,11 @@ judged-requires c κs =
     let s = c .before .before .before in
     (s .pre .0, (s .pre .1 .0, s .pre .1 .1 .1))
 
-put-answer-requires : tie.Need-put-answer-requires
-put-answer-requires c κs = search needs
-
-enum-known-a : tie.Need-enum-known-a
-enum-known-a c = search needs
-
 grant-new-requires : tie.Need-grant-new-requires
 grant-new-requires c κs =
     let b = c .before .before .before .before in
     let g = granted b (c .before .before .a .given .1) in
     (start b .pre .0 .disk, (g .takes, told-back (disk b) (start b .args .c) (g .takes .told) (g .tells) ∙ g .tells))
-
-enum-told : tie.Need-enum-told
-enum-told c = search needs
 
 wait-requires : tie.Need-wait-requires
 wait-requires c κs =
@@ -115,15 +106,9 @@ wait-requires c κs =
     let w : IsWaiting (disk b) (start b .args .second) (start b .args .c) (law b) = says b (c .before .enum-told .given .1) in
     (start b .pre .0 .disk, (w .place, w .ticket))
 
-code-requires : tie.Need-code-requires
-code-requires c κs = search needs
-
 same-length : tie.Need-same-length
 same-length c =
     ⊎-elim (λ w. search needs) (⊎-elim (λ w. search needs) (λ w. search needs)) (c .before .match .came)
-
-same-length-2 : tie.Need-same-length-2
-same-length-2 c = search needs
 
 returns : tie.Need-returns
 returns c =
@@ -145,12 +130,12 @@ serve-claim-spec =
     tie.close
     (tie.spec
     judged-requires
-    put-answer-requires
-    enum-known-a
+    (λ c κs. search needs)
+    (λ c. search needs)
     grant-new-requires
-    enum-told
+    (λ c. search needs)
     wait-requires
-    code-requires
+    (λ c κs. search needs)
     same-length
-    same-length-2
+    (λ c. search needs)
     returns)

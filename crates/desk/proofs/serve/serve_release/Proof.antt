@@ -130,18 +130,6 @@ module _ (b : tie.Then3) where
 
 -- ---- the needs
 
-clock-at-requires : tie.Need-clock-at-requires
-clock-at-requires c κs = search needs
-
-refuse-requires : tie.Need-refuse-requires
-refuse-requires c κs = search needs
-
-same-length : tie.Need-same-length
-same-length c = search needs
-
-same-length-2 : tie.Need-same-length-2
-same-length-2 c = search needs
-
 returns : tie.Need-returns
 unfolding refusalOf
 returns c =
@@ -149,15 +137,6 @@ returns c =
     let e = c .before .before .refuse .ensures in
     step-refused (k .args .part .now) 15
     (release-early (law k) (k .args .second) (k .args .ticket) (omega (arith, c .before .before .before .before .if1 .taken, c .before .before .before .before .before .clock-at .ensures))) (e .0) (e .1)
-
-find-active-requires : tie.Need-find-active-requires
-find-active-requires c κs = search needs
-
-actives-at-requires : tie.Need-actives-at-requires
-actives-at-requires c κs = search needs
-
-cast-if2 : tie.Need-cast-if2
-cast-if2 c = search needs
 
 end-requires : tie.Need-end-requires
 end-requires c κs = (start (c .before) .pre .0, here (c .before))
@@ -167,26 +146,11 @@ settle-requires c κs =
     let b = c .before .before .before .before .before .before in
     (made (ended b) (sound-ended b) (clock-ended b) (c .before .before .before .before .«end» .ensures), start b .pre .1)
 
-same-length-3 : tie.Need-same-length-3
-same-length-3 c = search needs
-
-same-length-4 : tie.Need-same-length-4
-same-length-4 c = search needs
-
 returns-2 : tie.Need-returns-2
 returns-2 c =
     let b = c .before .before .before .before .before .before .before .before .before .before .before in
     let k = start b in
     settle-as (ended b) (sound-ended b) (clock-ended b) (c .before .before .before .before .before .before .before .before .before .«end» .ensures) (k .args .part .now) (k .args .ticket) (release-ended b) (c .before .before .before .before .settle .ensures)
-
-find-waiting-requires : tie.Need-find-waiting-requires
-find-waiting-requires c κs = search needs
-
-waitings-at-requires : tie.Need-waitings-at-requires
-waitings-at-requires c κs = search needs
-
-cast-if3 : tie.Need-cast-if3
-cast-if3 c = search needs
 
 leave-requires : tie.Need-leave-requires
 leave-requires c κs = (start-2 (c .before) .pre .0 .disk, here-2 (c .before))
@@ -196,26 +160,11 @@ settle-requires-2 c κs =
     let b = c .before .before .before .before .before .before in
     (made (left b) (sound-left b) (clock-left b) (c .before .before .before .before .leave .ensures), start-2 b .pre .1)
 
-same-length-5 : tie.Need-same-length-5
-same-length-5 c = search needs
-
-same-length-6 : tie.Need-same-length-6
-same-length-6 c = search needs
-
 returns-3 : tie.Need-returns-3
 returns-3 c =
     let b = c .before .before .before .before .before .before .before .before .before .before .before in
     let k = start-2 b in
     settle-as (left b) (sound-left b) (clock-left b) (c .before .before .before .before .before .before .before .before .before .leave .ensures) (k .args .part .now) (k .args .ticket) (release-left b) (c .before .before .before .before .settle2 .ensures)
-
-refuse-requires-2 : tie.Need-refuse-requires-2
-refuse-requires-2 c κs = search needs
-
-same-length-7 : tie.Need-same-length-7
-same-length-7 c = search needs
-
-same-length-8 : tie.Need-same-length-8
-same-length-8 c = search needs
 
 returns-4 : tie.Need-returns-4
 unfolding refusalOf
@@ -232,28 +181,28 @@ pub serve-release-spec : {M : Type 1} → statement M
 serve-release-spec =
     tie.close
     (tie.spec
-    clock-at-requires
-    refuse-requires
-    same-length
-    same-length-2
+    (λ c κs. search needs)
+    (λ c κs. search needs)
+    (λ c. search needs)
+    (λ c. search needs)
     returns
-    find-active-requires
-    actives-at-requires
-    cast-if2
+    (λ c κs. search needs)
+    (λ c κs. search needs)
+    (λ c. search needs)
     end-requires
     settle-requires
-    same-length-3
-    same-length-4
+    (λ c. search needs)
+    (λ c. search needs)
     returns-2
-    find-waiting-requires
-    waitings-at-requires
-    cast-if3
+    (λ c κs. search needs)
+    (λ c κs. search needs)
+    (λ c. search needs)
     leave-requires
     settle-requires-2
-    same-length-5
-    same-length-6
+    (λ c. search needs)
+    (λ c. search needs)
     returns-3
-    refuse-requires-2
-    same-length-7
-    same-length-8
+    (λ c κs. search needs)
+    (λ c. search needs)
+    (λ c. search needs)
     returns-4)

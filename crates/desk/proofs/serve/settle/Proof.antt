@@ -13,19 +13,10 @@ use Rattle.desk.proofs.ServeLaws.{step-accepted, pass-answers}
 use Rattle.desk.proofs.serve.settle.Statement.{statement}
 use Rattle.desk.proofs.serve.settle.Tie as tie
 
-put-answer-requires : tie.Need-put-answer-requires
-put-answer-requires c κs = search needs
-
 pass-requires : tie.Need-pass-requires
 pass-requires c κs =
     let k = c .before .before .before .before .before .before .before .before in
     (k .pre .0, (search needs, record { own = A.Released (k .args .ticket); is = c .before .before .before .before .put-answer .ensures }))
-
-same-length : tie.Need-same-length
-same-length c = search needs
-
-same-length-2 : tie.Need-same-length-2
-same-length-2 c = search needs
 
 returns : tie.Need-returns
 unfolding released passedOf answerOf
@@ -39,4 +30,4 @@ returns c =
     ∙ ap (answerBytes (A.Released t)) (pass-answers (e .core) (e .waiting)))
 
 pub settle-spec : {M : Type 1} → statement M
-settle-spec = tie.close (tie.spec put-answer-requires pass-requires same-length same-length-2 returns)
+settle-spec = tie.close (tie.spec (λ c κs. search needs) pass-requires (λ c. search needs) (λ c. search needs) returns)

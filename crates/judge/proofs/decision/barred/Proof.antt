@@ -35,18 +35,6 @@ returns c =
     let a = c .before .before .args in
     ap (λ (n : ℕ). anyOf (barsAt (figuresIn (decode (a .s .now))) (a .second) (a .adds) (a .c .priority) (a .c .method)) (take n (decode (a .s .now) .waiting))) (sym (c .if1 .taken))
 
-used-at-requires : tie.Need-used-at-requires Inv-loop μ-loop
-used-at-requires c κs = search needs
-
-promised-at-requires : tie.Need-promised-at-requires Inv-loop μ-loop
-promised-at-requires c κs = search needs
-
-state-at-requires : tie.Need-state-at-requires Inv-loop μ-loop
-state-at-requires c κs = search needs
-
-index-of-requires : tie.Need-index-of-requires Inv-loop μ-loop
-index-of-requires c κs = tt
-
 -- ---- what has been read before the walk
 
 abbrev Read : Type 0
@@ -82,9 +70,6 @@ loop-holds c = refl
 
 waiting-at-requires : tie.Need-waiting-at-requires Inv-loop μ-loop
 waiting-at-requires c κs = (start (c .before .before) .pre .0 .long, omega (arith, c .loop-test .taken, start (c .before .before) .pre .1 .0))
-
-index-of-requires-2 : tie.Need-index-of-requires-2 Inv-loop μ-loop
-index-of-requires-2 c κs = tt
 
 mul-found : tie.Need-mul-found Inv-loop μ-loop
 mul-found c = omega (arith, c .index-of2 .ensures .1)
@@ -132,9 +117,6 @@ add-j c =
     let t = c .before .before .before .before .before .before in
     record { fits = omega (arith, t .loop-test .taken, start (t .before .before) .pre .1 .0) }
 
-loop-less : tie.Need-loop-less Inv-loop μ-loop
-loop-less c = search needs
-
 loop-again : tie.Need-loop-again Inv-loop μ-loop
 loop-again c =
     let b = c .before in
@@ -159,13 +141,13 @@ barred-spec =
     Inv-loop
     μ-loop
     returns
-    used-at-requires
-    promised-at-requires
-    state-at-requires
-    index-of-requires
+    (λ c κs. search needs)
+    (λ c κs. search needs)
+    (λ c κs. search needs)
+    (λ c κs. tt)
     loop-holds
     waiting-at-requires
-    index-of-requires-2
+    (λ c κs. tt)
     mul-found
     index-1-found
     index-2-found
@@ -173,6 +155,6 @@ barred-spec =
     bars-requires
     returns-2
     add-j
-    loop-less
+    (λ c. search needs)
     loop-again
     returns-3)

@@ -107,9 +107,6 @@ small r =
 
 -- ---- the place
 
-actives-at-requires : tie.Need-actives-at-requires
-actives-at-requires c κs = search needs
-
 count-is : (w : tie.After-actives-at) → w .actives-at .result ≡ length (ws (at-place w))
 count-is w = w .actives-at .ensures ∙ sym (row-length (disk-good (at-place w .pre .0) .active))
 
@@ -125,15 +122,6 @@ placed r = omega (arith, count-is (counted r), r .before .before .before .if1 .l
 by-disk : {X : Type 0} (r : tie.After-state-at) (g : Figures → X) →
     g (figuresOf (r .before .before .used-at .result) (r .before .promised-at .result) (r .state-at .result)) ≡ g (f (at-read r))
 by-disk r g j = g (figuresOf (r .before .before .used-at .ensures j) (r .before .promised-at .ensures j) (r .state-at .ensures j))
-
-used-at-requires : tie.Need-used-at-requires
-used-at-requires c κs = search needs
-
-promised-at-requires : tie.Need-promised-at-requires
-promised-at-requires c κs = search needs
-
-state-at-requires : tie.Need-state-at-requires
-state-at-requires c κs = search needs
 
 -- ---- preconditions
 
@@ -188,15 +176,6 @@ returns-4 c =
     let k = at-lock l in
     stopped l (sym (lock-not (f k) (q k) (ws k) (sym (not-true (l .lock-step .result .ok) (c .if4 .taken)) ∙ l .lock-step .ensures .0)))
 
-limit-requires : tie.Need-limit-requires
-limit-requires c κs = tt
-
-cast-most : tie.Need-cast-most
-cast-most c = search needs
-
-start-requires : tie.Need-start-requires
-start-requires c κs = tt
-
 add-total : tie.Need-add-total
 add-total c =
     record { fits = omega (arith, c .before .start .ensures .1, locked (c .before) .lock-step .ensures .1 .1) }
@@ -241,20 +220,20 @@ pub decide-spec : {M : Type 1} → statement M
 decide-spec =
     tie.close
     (tie.spec
-    actives-at-requires
+    (λ c κs. search needs)
     returns
-    used-at-requires
-    promised-at-requires
-    state-at-requires
+    (λ c κs. search needs)
+    (λ c κs. search needs)
+    (λ c κs. search needs)
     preconditions-requires
     returns-2
     barred-requires
     returns-3
     lock-step-requires
     returns-4
-    limit-requires
-    cast-most
-    start-requires
+    (λ c κs. tt)
+    (λ c. search needs)
+    (λ c κs. tt)
     add-total
     returns-5
     returns-6)

@@ -40,9 +40,6 @@ Inv-loop s c table n used promised state m col reading raise sum₀ i₀ sum i =
 abbrev μ-loop : tie.MeasureT-loop
 μ-loop s c table n used promised state m col reading raise sum₀ i₀ sum i = n - i
 
-have-say-requires : tie.Need-have-say-requires Inv-loop μ-loop
-have-say-requires c κs = tt
-
 -- No active claim has a say.
 returns : tie.Need-returns Inv-loop μ-loop
 returns c =
@@ -52,30 +49,6 @@ returns c =
     let none : haveSay (totalsOf (activesIn d)) (q .method) ≡ false =
     sym (c .before .have-say .ensures ∙ ap (λ (t : Totals). haveSay t (q .method)) (k .pre .1)) ∙ not-true (c .before .have-say .result) (c .if1 .taken) in
     (all-let (figuresIn d) q (activesIn d) none, ((λ e. none-cost (figuresIn d) q (activesIn d) none), omega arith))
-
-actives-at-requires : tie.Need-actives-at-requires Inv-loop μ-loop
-actives-at-requires c κs = search needs
-
-cast-n : tie.Need-cast-n Inv-loop μ-loop
-cast-n c = search needs
-
-used-at-requires : tie.Need-used-at-requires Inv-loop μ-loop
-used-at-requires c κs = search needs
-
-promised-at-requires : tie.Need-promised-at-requires Inv-loop μ-loop
-promised-at-requires c κs = search needs
-
-state-at-requires : tie.Need-state-at-requires Inv-loop μ-loop
-state-at-requires c κs = search needs
-
-index-of-requires : tie.Need-index-of-requires Inv-loop μ-loop
-index-of-requires c κs = tt
-
-is-reading-requires : tie.Need-is-reading-requires Inv-loop μ-loop
-is-reading-requires c κs = tt
-
-raise-of-requires : tie.Need-raise-of-requires Inv-loop μ-loop
-raise-of-requires c κs = tt
 
 -- ---- what has been read before the walk
 
@@ -115,9 +88,6 @@ loop-holds c = (omega arith, omega arith, refl, omega arith)
 active-at-requires : tie.Need-active-at-requires Inv-loop μ-loop
 active-at-requires c κs = (start (c .before .before) .pre .0 .long, omega (arith, c .loop-test .taken, row (c .before .before) .few))
 
-index-of-requires-2 : tie.Need-index-of-requires-2 Inv-loop μ-loop
-index-of-requires-2 c κs = tt
-
 mul-found : tie.Need-mul-found Inv-loop μ-loop
 mul-found c = omega (arith, c .index-of2 .ensures .1)
 
@@ -138,9 +108,6 @@ entry-requires c κs =
 lets-requires : tie.Need-lets-requires Inv-loop μ-loop
 lets-requires c κs = c .before .before .before .before .before .before .raise-of .ensures .1
 
-cost-requires : tie.Need-cost-requires Inv-loop μ-loop
-cost-requires c κs = tt
-
 add-sum : tie.Need-add-sum Inv-loop μ-loop
 add-sum c =
     let l = c .before .before .before .before .before .before .before .before in
@@ -150,9 +117,6 @@ add-i : tie.Need-add-i Inv-loop μ-loop
 add-i c =
     let t = c .before .before .before .before .before .before .before in
     record { fits = omega (arith, t .loop-test .taken, row (t .before .before) .few) }
-
-loop-less : tie.Need-loop-less Inv-loop μ-loop
-loop-less c = search needs
 
 lets-there : (l : tie.After-lets Inv-loop μ-loop) →
     let w = l .before .before .before .before .before .before in
@@ -219,28 +183,28 @@ lock-step-spec =
     (tie.spec
     Inv-loop
     μ-loop
-    have-say-requires
+    (λ c κs. tt)
     returns
-    actives-at-requires
-    cast-n
-    used-at-requires
-    promised-at-requires
-    state-at-requires
-    index-of-requires
-    is-reading-requires
-    raise-of-requires
+    (λ c κs. search needs)
+    (λ c. search needs)
+    (λ c κs. search needs)
+    (λ c κs. search needs)
+    (λ c κs. search needs)
+    (λ c κs. tt)
+    (λ c κs. tt)
+    (λ c κs. tt)
     loop-holds
     active-at-requires
-    index-of-requires-2
+    (λ c κs. tt)
     mul-found
     index-1-found
     index-2-found
     entry-requires
     lets-requires
-    cost-requires
+    (λ c κs. tt)
     add-sum
     add-i
-    loop-less
+    (λ c. search needs)
     loop-again
     returns-2
     returns-3)

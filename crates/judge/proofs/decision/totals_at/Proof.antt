@@ -1,8 +1,8 @@
 -- The totals so far, with the claims that are left, make the totals of all.
 use borrow.Author.Needs.{needs}
-use Prim.Native.Nat.{ℕ, _+_, _-_, _≤_, _<_}
-use mathlib.Core.List.{List, [], _∷_}
-use mathlib.Core.Path.{_≡_, refl, sym, ap, _∙_}
+use Prim.Native.Nat.{ℕ, _+_, _-_, _≤_}
+use mathlib.Core.List.{List, _∷_}
+use mathlib.Core.Path.{_≡_, sym, ap, _∙_}
 use native.Mathlib.Omega.{arith}
 use lib.ListN.{take, drop}
 use Rattle.law.specs.declared.Claim.{Claim}
@@ -49,15 +49,6 @@ row r = active-row (start r .pre) (count-is r)
 by-disk : (r : Read) → totalsOf (all r) ≡ totalsOf (activesIn (disk r))
 by-disk r j = totalsOf (take (count-is r j) (disk r .active))
 
-actives-at-requires : tie.Need-actives-at-requires Inv μ
-actives-at-requires c κs = search needs
-
-cast-n : tie.Need-cast-n Inv μ
-cast-n c = search needs
-
-no-totals-requires : tie.Need-no-totals-requires Inv μ
-no-totals-requires c κs = tt
-
 loop-holds : tie.Need-loop-holds Inv μ
 loop-holds c = (omega arith, ap (λ (t : Totals). totalsFrom t (all c)) (c .no-totals .ensures))
 
@@ -80,9 +71,6 @@ add-i : tie.Need-add-i Inv μ
 add-i c =
     let l = c .before .before in
     record { fits = omega (arith, l .loop-test .taken, row (l .before .before) .few) }
-
-loop-less : tie.Need-loop-less Inv μ
-loop-less c = search needs
 
 loop-again : tie.Need-loop-again Inv μ
 loop-again c =
@@ -107,13 +95,13 @@ totals-at-spec =
     (tie.spec
     Inv
     μ
-    actives-at-requires
-    cast-n
-    no-totals-requires
+    (λ c κs. search needs)
+    (λ c. search needs)
+    (λ c κs. tt)
     loop-holds
     active-at-requires
     with-claim-requires
     add-i
-    loop-less
+    (λ c. search needs)
     loop-again
     returns)

@@ -8,12 +8,9 @@ use Rattle.num.specs.Bits.{hasBit}
 use Rattle.num.proofs.bits.bit.Statement.{statement}
 use Rattle.num.proofs.bits.bit.Tie as tie
 
-shr-result : tie.Need-shr-result
-shr-result c = search needs
-
 returns : tie.Need-returns
 unfolding hasBit
 returns c = ap (λ (x : ℕ). eqb x 1) (and-mask (c .args .mask / 2 ^ c .args .a) 1)
 
 pub bit-spec : {M : Type 1} → statement M
-bit-spec = tie.close (tie.spec shr-result returns)
+bit-spec = tie.close (tie.spec (λ c. search needs) returns)

@@ -8,16 +8,10 @@ use lib.Pow.{shl-exact}
 use Rattle.num.proofs.bits.bit_of.Statement.{statement}
 use Rattle.num.proofs.bits.bit_of.Tie as tie
 
-cast-result : tie.Need-cast-result
-cast-result c = search needs
-
-shl-result : tie.Need-shl-result
-shl-result c = search needs
-
 returns : tie.Need-returns
 returns c =
     let power = shl-exact {a = 1} 1 (c .args .a % 64) 64 (lit< tt) (omega arith) in
     rw (power, one-mul)
 
 pub bit-of-spec : {M : Type 1} → statement M
-bit-of-spec = tie.close (tie.spec cast-result shl-result returns)
+bit-of-spec = tie.close (tie.spec (λ c. search needs) (λ c. search needs) returns)

@@ -8,9 +8,6 @@ use Rattle.num.specs.Word.{Bytes}
 use Rattle.num.proofs.opened.open_count.Statement.{statement}
 use Rattle.num.proofs.opened.open_count.Tie as tie
 
-open-word-requires : tie.Need-open-word-requires
-open-word-requires c κs = search needs
-
 returns : tie.Need-returns
 returns c =
     let s = now (c .before .before .args .s) in
@@ -18,4 +15,4 @@ returns c =
     rw (c .open-word .ensures, ones-open s bytes) (refl, open-count-most s)
 
 pub open-count-spec : {M : Type 1} → statement M
-open-count-spec = tie.close (tie.spec open-word-requires returns)
+open-count-spec = tie.close (tie.spec (λ c κs. search needs) returns)

@@ -9,21 +9,6 @@ use Rattle.num.specs.Opened.{setOpen}
 use Rattle.num.proofs.opened.set_open.Statement.{statement}
 use Rattle.num.proofs.opened.set_open.Tie as tie
 
-slice-read-s : tie.Need-slice-read-s
-slice-read-s c = search needs
-
-cast-s : tie.Need-cast-s
-cast-s c = search needs
-
-shl-s : tie.Need-shl-s
-shl-s c = search needs
-
-slice-write-s : tie.Need-slice-write-s
-slice-write-s c = search needs
-
-same-length : tie.Need-same-length
-same-length c = search needs
-
 returns : tie.Need-returns
 unfolding setOpen
 returns c =
@@ -31,4 +16,4 @@ returns c =
     rw (power, one-mul)
 
 pub set-open-spec : {M : Type 1} → statement M
-set-open-spec = tie.close (tie.spec slice-read-s cast-s shl-s slice-write-s same-length returns)
+set-open-spec = tie.close (tie.spec (λ c. search needs) (λ c. search needs) (λ c. search needs) (λ c. search needs) (λ c. search needs) returns)

@@ -25,12 +25,6 @@ module _ (c : tie.Else1) where
   high-read : SFits w64 (toZ w32 (c .before .args .x))
   high-read = sfits-widen tt high-fits
 
-cast-result : tie.Need-cast-result
-cast-result c = search needs
-
-cast-result-2 : tie.Need-cast-result-2
-cast-result-2 c = search needs
-
 sub-result : tie.Need-sub-result
 sub-result c = rw (high-is c) (high-read c)
 
@@ -47,4 +41,4 @@ returns-2 c = rw (high-is c, toZ-ofZ (high-read c), toZ-ofZ (high-fits c))
 
 pub to-signed-spec : {M : Type 1} → statement M
 to-signed-spec =
-    tie.close (tie.spec cast-result cast-result-2 sub-result cast-result-3 returns returns-2)
+    tie.close (tie.spec (λ c. search needs) (λ c. search needs) sub-result cast-result-3 returns returns-2)

@@ -32,8 +32,5 @@ returns : tie.Need-returns
 returns c =
     rw (toZ-ofZ (c .before .fits .z), toZ-ofZ (negated (c .before))) (size-negated (c .before .args .z))
 
-returns-2 : tie.Need-returns-2
-returns-2 c = search needs
-
 pub wide-size-spec : {M : Type 1} → statement M
-wide-size-spec = tie.close (tie.spec sub-result cast-result cast-result-2 returns returns-2)
+wide-size-spec = tie.close (tie.spec sub-result cast-result cast-result-2 returns (λ c. search needs))

@@ -6,15 +6,6 @@ use Rattle.part.specs.SlotLaws.{slot-behind}
 use Rattle.part.proofs.read.active_at.Statement.{statement}
 use Rattle.part.proofs.read.active_at.Tie as tie
 
-mul-claim-at : tie.Need-mul-claim-at
-mul-claim-at c = search needs
-
-add-claim-at : tie.Need-add-claim-at
-add-claim-at c = search needs
-
-claim-at-requires : tie.Need-claim-at-requires
-claim-at-requires c κs = search needs
-
 returns : tie.Need-returns
 unfolding decode
 returns c =
@@ -23,4 +14,4 @@ returns c =
     ∙ sym (slot-behind 64 (a .s .now) (a .i) (c .before .before .pre .1))
 
 pub active-at-spec : {M : Type 1} → statement M
-active-at-spec = tie.close (tie.spec mul-claim-at add-claim-at claim-at-requires returns)
+active-at-spec = tie.close (tie.spec (λ c. search needs) (λ c. search needs) (λ c κs. search needs) returns)

@@ -5,27 +5,6 @@ use Rattle.part.specs.Layout.{attrAt}
 use Rattle.part.proofs.read.attr_at.Statement.{statement}
 use Rattle.part.proofs.read.attr_at.Tie as tie
 
-signed-at-requires : tie.Need-signed-at-requires
-signed-at-requires c κs = search needs
-
-add-word-at : tie.Need-add-word-at
-add-word-at c = search needs
-
-word-at-requires : tie.Need-word-at-requires
-word-at-requires c κs = search needs
-
-add-word-at-2 : tie.Need-add-word-at-2
-add-word-at-2 c = search needs
-
-word-at-requires-2 : tie.Need-word-at-requires-2
-word-at-requires-2 c κs = search needs
-
-add-word-at-3 : tie.Need-add-word-at-3
-add-word-at-3 c = search needs
-
-word-at-requires-3 : tie.Need-word-at-requires-3
-word-at-requires-3 c κs = search needs
-
 returns : tie.Need-returns
 unfolding attrAt
 returns c =
@@ -44,11 +23,11 @@ pub attr-at-spec : {M : Type 1} → statement M
 attr-at-spec =
     tie.close
     (tie.spec
-    signed-at-requires
-    add-word-at
-    word-at-requires
-    add-word-at-2
-    word-at-requires-2
-    add-word-at-3
-    word-at-requires-3
+    (λ c κs. search needs)
+    (λ c. search needs)
+    (λ c κs. search needs)
+    (λ c. search needs)
+    (λ c κs. search needs)
+    (λ c. search needs)
+    (λ c κs. search needs)
     returns)

@@ -4,12 +4,9 @@ use Rattle.part.specs.Layout.{decode}
 use Rattle.part.proofs.read.promised_at.Statement.{statement}
 use Rattle.part.proofs.read.promised_at.Tie as tie
 
-attr-at-requires : tie.Need-attr-at-requires
-attr-at-requires c κs = search needs
-
 returns : tie.Need-returns
 unfolding decode
 returns c = c .attr-at .ensures
 
 pub promised-at-spec : {M : Type 1} → statement M
-promised-at-spec = tie.close (tie.spec attr-at-requires returns)
+promised-at-spec = tie.close (tie.spec (λ c κs. search needs) returns)

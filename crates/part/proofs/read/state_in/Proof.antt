@@ -5,19 +5,10 @@ use Rattle.part.specs.Layout.{stateIn}
 use Rattle.part.proofs.read.state_in.Statement.{statement}
 use Rattle.part.proofs.read.state_in.Tie as tie
 
-signed-at-requires : tie.Need-signed-at-requires
-signed-at-requires c κs = search needs
-
-add-word-at : tie.Need-add-word-at
-add-word-at c = search needs
-
-word-at-requires : tie.Need-word-at-requires
-word-at-requires c κs = search needs
-
 returns : tie.Need-returns
 unfolding stateIn
 returns c =
     rw (toZ-ofZ (sfits-of (c .before .signed-at .ok)), c .before .signed-at .ensures, c .word-at .ensures)
 
 pub state-in-spec : {M : Type 1} → statement M
-state-in-spec = tie.close (tie.spec signed-at-requires add-word-at word-at-requires returns)
+state-in-spec = tie.close (tie.spec (λ c κs. search needs) (λ c. search needs) (λ c κs. search needs) returns)

@@ -23,21 +23,6 @@ actives-is r = r .before .word-at .ensures
 none-waits : (k : tie.Then1) → wordAt (part (k .before)) waitingsAt ≡ 0
 none-waits k = sym (k .before .word-at2 .ensures) ∙ k .if1 .taken
 
-zero-words-requires : tie.Need-zero-words-requires
-zero-words-requires c κs = search needs
-
-word-at-requires : tie.Need-word-at-requires
-word-at-requires c κs = search needs
-
-word-at-requires-2 : tie.Need-word-at-requires-2
-word-at-requires-2 c κs = search needs
-
-zero-between-requires : tie.Need-zero-between-requires
-zero-between-requires c κs = search needs
-
-both-requires : tie.Need-both-requires
-both-requires c κs = search needs
-
 returns : tie.Need-returns
 unfolding decodes
 returns c =
@@ -46,18 +31,6 @@ returns c =
     let active : wordAt (part r) activesAt ≡ 0 = sym (actives-is r) ∙ c .before .before .if2 .taken in
     rw (c .both .ensures, r .before .before .zero-words .ensures, c .before .zero-between .ensures, active, none-waits w, and-true)
     (ap (λ (b : Bool). zeroAt (part r) 56 8 && b) (no-claims (part r)))
-
-slots-whole-requires : tie.Need-slots-whole-requires
-slots-whole-requires c κs = search needs
-
-zero-between-requires-2 : tie.Need-zero-between-requires-2
-zero-between-requires-2 c κs = search needs
-
-both-requires-2 : tie.Need-both-requires-2
-both-requires-2 c κs = search needs
-
-both-requires-3 : tie.Need-both-requires-3
-both-requires-3 c κs = search needs
 
 returns-2 : tie.Need-returns-2
 unfolding decodes
@@ -77,18 +50,6 @@ returns-2 c =
       and-true,
     )
 
-slots-whole-requires-2 : tie.Need-slots-whole-requires-2
-slots-whole-requires-2 c κs = search needs
-
-slots-whole-requires-3 : tie.Need-slots-whole-requires-3
-slots-whole-requires-3 c κs = search needs
-
-both-requires-4 : tie.Need-both-requires-4
-both-requires-4 c κs = search needs
-
-both-requires-5 : tie.Need-both-requires-5
-both-requires-5 c κs = search needs
-
 returns-3 : tie.Need-returns-3
 unfolding decodes
 returns-3 c =
@@ -107,19 +68,19 @@ pub decodes-spec : {M : Type 1} → statement M
 decodes-spec =
     tie.close
     (tie.spec
-    zero-words-requires
-    word-at-requires
-    word-at-requires-2
-    zero-between-requires
-    both-requires
+    (λ c κs. search needs)
+    (λ c κs. search needs)
+    (λ c κs. search needs)
+    (λ c κs. search needs)
+    (λ c κs. search needs)
     returns
-    slots-whole-requires
-    zero-between-requires-2
-    both-requires-2
-    both-requires-3
+    (λ c κs. search needs)
+    (λ c κs. search needs)
+    (λ c κs. search needs)
+    (λ c κs. search needs)
     returns-2
-    slots-whole-requires-2
-    slots-whole-requires-3
-    both-requires-4
-    both-requires-5
+    (λ c κs. search needs)
+    (λ c κs. search needs)
+    (λ c κs. search needs)
+    (λ c κs. search needs)
     returns-3)

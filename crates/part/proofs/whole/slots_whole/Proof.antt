@@ -4,33 +4,6 @@ use Rattle.part.proofs.WholeLaws.{too-many, past}
 use Rattle.part.proofs.whole.slots_whole.Statement.{statement}
 use Rattle.part.proofs.whole.slots_whole.Tie as tie
 
-claims-then-zero-requires : tie.Need-claims-then-zero-requires
-claims-then-zero-requires c κs = search needs
-
-claims-then-zero-requires-2 : tie.Need-claims-then-zero-requires-2
-claims-then-zero-requires-2 c κs = search needs
-
-claims-then-zero-requires-3 : tie.Need-claims-then-zero-requires-3
-claims-then-zero-requires-3 c κs = search needs
-
-claims-then-zero-requires-4 : tie.Need-claims-then-zero-requires-4
-claims-then-zero-requires-4 c κs = search needs
-
-claims-then-zero-requires-5 : tie.Need-claims-then-zero-requires-5
-claims-then-zero-requires-5 c κs = search needs
-
-claims-then-zero-requires-6 : tie.Need-claims-then-zero-requires-6
-claims-then-zero-requires-6 c κs = search needs
-
-claims-then-zero-requires-7 : tie.Need-claims-then-zero-requires-7
-claims-then-zero-requires-7 c κs = search needs
-
-claims-then-zero-requires-8 : tie.Need-claims-then-zero-requires-8
-claims-then-zero-requires-8 c κs = search needs
-
-claims-then-zero-requires-9 : tie.Need-claims-then-zero-requires-9
-claims-then-zero-requires-9 c κs = search needs
-
 returns : tie.Need-returns
 returns c = rw (c .before .match .keys1) (c .claims-then-zero .ensures)
 
@@ -67,15 +40,15 @@ pub slots-whole-spec : {M : Type 1} → statement M
 slots-whole-spec =
     tie.close
     (tie.spec
-    claims-then-zero-requires
-    claims-then-zero-requires-2
-    claims-then-zero-requires-3
-    claims-then-zero-requires-4
-    claims-then-zero-requires-5
-    claims-then-zero-requires-6
-    claims-then-zero-requires-7
-    claims-then-zero-requires-8
-    claims-then-zero-requires-9
+    (λ c κs. search needs)
+    (λ c κs. search needs)
+    (λ c κs. search needs)
+    (λ c κs. search needs)
+    (λ c κs. search needs)
+    (λ c κs. search needs)
+    (λ c κs. search needs)
+    (λ c κs. search needs)
+    (λ c κs. search needs)
     returns
     returns-2
     returns-3

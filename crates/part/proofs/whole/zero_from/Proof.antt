@@ -8,21 +8,6 @@ use Rattle.part.specs.Layout.{zeroAt}
 use Rattle.part.proofs.whole.zero_from.Statement.{statement}
 use Rattle.part.proofs.whole.zero_from.Tie as tie
 
-zero-words-requires : tie.Need-zero-words-requires
-zero-words-requires c κs = search needs
-
-mul-zero-between : tie.Need-mul-zero-between
-mul-zero-between c = search needs
-
-add-zero-between : tie.Need-add-zero-between
-add-zero-between c = search needs
-
-zero-between-requires : tie.Need-zero-between-requires
-zero-between-requires c κs = search needs
-
-both-requires : tie.Need-both-requires
-both-requires c κs = search needs
-
 returns : tie.Need-returns
 returns c =
     let a = c .before .before .before .before .args in
@@ -36,9 +21,9 @@ pub zero-from-spec : {M : Type 1} → statement M
 zero-from-spec =
     tie.close
     (tie.spec
-    zero-words-requires
-    mul-zero-between
-    add-zero-between
-    zero-between-requires
-    both-requires
+    (λ c κs. search needs)
+    (λ c. search needs)
+    (λ c. search needs)
+    (λ c κs. search needs)
+    (λ c κs. search needs)
     returns)

@@ -7,12 +7,6 @@ use Rattle.part.specs.Layout.{claimWords}
 use Rattle.part.proofs.write.claim_words.Statement.{statement}
 use Rattle.part.proofs.write.claim_words.Tie as tie
 
-to-word-requires : tie.Need-to-word-requires
-to-word-requires c κs = search needs
-
-to-word-requires-2 : tie.Need-to-word-requires-2
-to-word-requires-2 c κs = search needs
-
 returns : tie.Need-returns
 unfolding claimWords
 returns c =
@@ -22,4 +16,4 @@ returns c =
     rw (c .before .before .to-word .ensures, c .to-word2 .ensures, toZ-ofZ value, toZ-ofZ told)
 
 pub claim-words-spec : {M : Type 1} → statement M
-claim-words-spec = tie.close (tie.spec to-word-requires to-word-requires-2 returns)
+claim-words-spec = tie.close (tie.spec (λ c κs. search needs) (λ c κs. search needs) returns)

@@ -16,15 +16,6 @@ promised c = search needs
 state : (c : tie.Start) → SFits w32 (c .args .d .state .value)
 state c = search needs
 
-to-word-requires : tie.Need-to-word-requires
-to-word-requires c κs = search needs
-
-to-word-requires-2 : tie.Need-to-word-requires-2
-to-word-requires-2 c κs = search needs
-
-to-word-requires-3 : tie.Need-to-word-requires-3
-to-word-requires-3 c κs = search needs
-
 returns : tie.Need-returns
 unfolding headWords
 returns c =
@@ -41,4 +32,4 @@ returns c =
 
 pub head-words-spec : {M : Type 1} → statement M
 head-words-spec =
-    tie.close (tie.spec to-word-requires to-word-requires-2 to-word-requires-3 returns)
+    tie.close (tie.spec (λ c κs. search needs) (λ c κs. search needs) (λ c κs. search needs) returns)

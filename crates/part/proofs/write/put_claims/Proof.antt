@@ -28,27 +28,6 @@ unfolding inSlots
 loop-holds c =
     (omega arith, refl, sym (splice-none _ _))
 
-mul-c : tie.Need-mul-c Inv-loop μ-loop
-mul-c c = search needs
-
-array-copy-out-c : tie.Need-array-copy-out-c Inv-loop μ-loop
-array-copy-out-c c = search needs
-
-mul-put-claim : tie.Need-mul-put-claim Inv-loop μ-loop
-mul-put-claim c = search needs
-
-add-put-claim : tie.Need-add-put-claim Inv-loop μ-loop
-add-put-claim c = search needs
-
-put-claim-requires : tie.Need-put-claim-requires Inv-loop μ-loop
-put-claim-requires c κs = search needs
-
-add-i : tie.Need-add-i Inv-loop μ-loop
-add-i c = search needs
-
-loop-less : tie.Need-loop-less Inv-loop μ-loop
-loop-less c = search needs
-
 loop-again : tie.Need-loop-again Inv-loop μ-loop
 loop-again c =
     let p = c .before .before in
@@ -63,9 +42,6 @@ loop-again c =
           ∙ ap (λ (r : List ℕ). splice r place words) (l .loop .inv .2)
           ∙ put-slot (a .s .now) (a .at) (l .loop .i) (a .t3) (omega arith),
     )
-
-same-length : tie.Need-same-length Inv-loop μ-loop
-same-length c = search needs
 
 returns : tie.Need-returns Inv-loop μ-loop
 returns c =
@@ -82,13 +58,13 @@ put-claims-spec =
     Inv-loop
     μ-loop
     loop-holds
-    mul-c
-    array-copy-out-c
-    mul-put-claim
-    add-put-claim
-    put-claim-requires
-    add-i
-    loop-less
+    (λ c. search needs)
+    (λ c. search needs)
+    (λ c. search needs)
+    (λ c. search needs)
+    (λ c κs. search needs)
+    (λ c. search needs)
+    (λ c. search needs)
     loop-again
-    same-length
+    (λ c. search needs)
     returns)

@@ -17,24 +17,6 @@ active c = search (needs, length-mapped)
 waiting : (c : tie.Start) → length (c .args .d .waiting) ≡ 8
 waiting c = search (needs, length-mapped)
 
-head-words-requires : tie.Need-head-words-requires
-head-words-requires c κs = search needs
-
-slice-aggregate-put-words : tie.Need-slice-aggregate-put-words
-slice-aggregate-put-words c = search needs
-
-put-words-requires : tie.Need-put-words-requires
-put-words-requires c κs = search needs
-
-put-claims-requires : tie.Need-put-claims-requires
-put-claims-requires c κs = search needs
-
-put-claims-requires-2 : tie.Need-put-claims-requires-2
-put-claims-requires-2 c κs = search needs
-
-same-length : tie.Need-same-length
-same-length c = search needs
-
 returns : tie.Need-returns
 returns c =
     let p3 = c .before .before in
@@ -50,10 +32,10 @@ pub put-disk-spec : {M : Type 1} → statement M
 put-disk-spec =
     tie.close
     (tie.spec
-    head-words-requires
-    slice-aggregate-put-words
-    put-words-requires
-    put-claims-requires
-    put-claims-requires-2
-    same-length
+    (λ c κs. search needs)
+    (λ c. search needs)
+    (λ c κs. search needs)
+    (λ c κs. search needs)
+    (λ c κs. search needs)
+    (λ c. search needs)
     returns)

@@ -5,18 +5,6 @@ use Rattle.rules.specs.Disks.{byValue}
 use Rattle.rules.proofs.disk.opened.Statement.{statement}
 use Rattle.rules.proofs.disk.opened.Tie as tie
 
-no-claim-requires : tie.Need-no-claim-requires
-no-claim-requires c κs = search needs
-
-blank-requires : tie.Need-blank-requires
-blank-requires c κs = search needs
-
-blank-requires-2 : tie.Need-blank-requires-2
-blank-requires-2 c κs = search needs
-
-blank-requires-3 : tie.Need-blank-requires-3
-blank-requires-3 c κs = search needs
-
 returns : tie.Need-returns
 unfolding byValue opened
 returns c =
@@ -30,4 +18,4 @@ returns c =
 pub opened-spec : {M : Type 1} → statement M
 opened-spec =
     tie.close
-    (tie.spec no-claim-requires blank-requires blank-requires-2 blank-requires-3 returns)
+    (tie.spec (λ c κs. search needs) (λ c κs. search needs) (λ c κs. search needs) (λ c κs. search needs) returns)

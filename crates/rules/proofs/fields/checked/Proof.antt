@@ -16,17 +16,11 @@ returns : tie.Need-returns
 returns c =
     first-clock _ _ _ _ (c .if1 .taken)
 
-is-known-requires : tie.Need-is-known-requires
-is-known-requires c κs = tt
-
 returns-2 : tie.Need-returns-2
 returns-2 c =
     let t = c .before .before in
     first-method _ _ _ _ (t .if1 .left)
     (ltb-false _ 7 (sym (c .before .is-known .ensures) ∙ not-true _ (c .if2 .taken)))
-
-fields-fit-requires : tie.Need-fields-fit-requires
-fields-fit-requires c κs = search needs
 
 returns-3 : tie.Need-returns-3
 returns-3 c =
@@ -34,9 +28,6 @@ returns-3 c =
     let t = m .before .before in
     first-field _ _ _ _ (t .if1 .left) (known m)
     (ap not (sym (c .before .fields-fit .ensures)) ∙ c .if3 .taken)
-
-own-fits-requires : tie.Need-own-fits-requires
-own-fits-requires c κs = search needs
 
 returns-4 : tie.Need-returns-4
 returns-4 c =
@@ -74,11 +65,11 @@ checked-spec =
     tie.close
     (tie.spec
     returns
-    is-known-requires
+    (λ c κs. tt)
     returns-2
-    fields-fit-requires
+    (λ c κs. search needs)
     returns-3
-    own-fits-requires
+    (λ c κs. search needs)
     returns-4
     returns-5
     returns-6)

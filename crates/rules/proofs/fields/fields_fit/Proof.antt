@@ -13,17 +13,11 @@ returns c =
     let a = c .before .before .args in
     error-over (a .now) (a .c) (kindOf diskTable (a .c)) (c .if1 .taken)
 
-is-reading-requires : tie.Need-is-reading-requires
-is-reading-requires c κs = search needs
-
 returns-2 : tie.Need-returns-2
 returns-2 c =
     let r = c .before .before in
     let a = r .before .before .before .before .args in
     reading-measured (a .now) (a .c) (kindOf diskTable (a .c)) (sym (r .before .is-reading .ensures) ∙ r .if2 .taken) (c .if3 .taken)
-
-size-requires : tie.Need-size-requires
-size-requires c κs = search needs
 
 returns-3 : tie.Need-returns-3
 returns-3 c =
@@ -47,9 +41,6 @@ returns-5 c =
     let a = r .before .before .before .before .args in
     write-later (a .now) (a .c) (kindOf diskTable (a .c)) (sym (r .before .is-reading .ensures) ∙ r .if2 .left) (c .if5 .taken)
 
-value-fits-requires : tie.Need-value-fits-requires
-value-fits-requires c κs = search needs
-
 returns-6 : tie.Need-returns-6
 returns-6 c =
     let l = c .before .before in
@@ -66,11 +57,11 @@ fields-fit-spec =
     tie.close
     (tie.spec
     returns
-    is-reading-requires
+    (λ c κs. search needs)
     returns-2
-    size-requires
+    (λ c κs. search needs)
     returns-3
     returns-4
     returns-5
-    value-fits-requires
+    (λ c κs. search needs)
     returns-6)

@@ -8,17 +8,11 @@ use Rattle.rules.proofs.CallLaws.{own-reading, own-write}
 use Rattle.rules.proofs.fields.own_fits.Statement.{statement}
 use Rattle.rules.proofs.fields.own_fits.Tie as tie
 
-is-reading-requires : tie.Need-is-reading-requires
-is-reading-requires c κs = search needs
-
 returns : tie.Need-returns
 returns c =
     let a = c .before .before .args in
     own-reading (figuresOf (a .used) (a .promised) (a .state)) (kindAt diskTable (a .m)) (a .error)
     (sym (c .before .is-reading .ensures) ∙ c .if1 .taken)
-
-written-requires : tie.Need-written-requires
-written-requires c κs = search needs
 
 returns-2 : tie.Need-returns-2
 returns-2 c =
@@ -29,4 +23,4 @@ returns-2 c =
     (sym (r .before .is-reading .ensures) ∙ r .if1 .left))
 
 pub own-fits-spec : {M : Type 1} → statement M
-own-fits-spec = tie.close (tie.spec is-reading-requires returns written-requires returns-2)
+own-fits-spec = tie.close (tie.spec (λ c κs. search needs) returns (λ c κs. search needs) returns-2)

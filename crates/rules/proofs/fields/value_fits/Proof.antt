@@ -6,17 +6,11 @@ use Rattle.rules.proofs.CallLaws.{state-below, state-from, value-other}
 use Rattle.rules.proofs.fields.value_fits.Statement.{statement}
 use Rattle.rules.proofs.fields.value_fits.Tie as tie
 
-sets-state-requires : tie.Need-sets-state-requires
-sets-state-requires c κs = tt
-
 returns : tie.Need-returns
 returns c =
     let k = c .before .before in
     let s = k .before in
     state-below (s .args .m) (s .args .value) (sym (k .sets-state .ensures) ∙ c .before .if1 .taken) (rw (toZ-ofZ (s .fits .value)) at (c .if2 .taken))
-
-within-requires : tie.Need-within-requires
-within-requires c κs = search needs
 
 returns-2 : tie.Need-returns-2
 returns-2 c =
@@ -25,9 +19,6 @@ returns-2 c =
     rw (c .within .ensures, toZ-ofZ (s .fits .value))
     (state-from (s .args .m) (s .args .value) (sym (k .sets-state .ensures) ∙ c .before .before .if1 .taken) (rw (toZ-ofZ (s .fits .value)) at (c .before .if2 .left)))
 
-within-requires-2 : tie.Need-within-requires-2
-within-requires-2 c κs = search needs
-
 returns-3 : tie.Need-returns-3
 returns-3 c =
     let k = c .before .before in
@@ -35,4 +26,4 @@ returns-3 c =
     rw (c .within2 .ensures, toZ-ofZ (s .fits .value)) (value-other (s .args .m) (s .args .value) (sym (k .sets-state .ensures) ∙ c .before .if1 .left))
 
 pub value-fits-spec : {M : Type 1} → statement M
-value-fits-spec = tie.close (tie.spec sets-state-requires returns within-requires returns-2 within-requires-2 returns-3)
+value-fits-spec = tie.close (tie.spec (λ c κs. tt) returns (λ c κs. search needs) returns-2 (λ c κs. search needs) returns-3)

@@ -50,34 +50,13 @@ returns c =
     let f = figuresOf (a .used) (a .promised) (a .state) in
     sym (fresh-unasked f (a .now) (kindAt diskTable (a .m)) (a .flag) (c .if1 .taken))
 
-reads-requires : tie.Need-reads-requires
-reads-requires c κs = search needs
-
-bit-requires : tie.Need-bit-requires
-bit-requires c κs = search needs
-
-stale-requires : tie.Need-stale-requires
-stale-requires c κs = search needs
-
 returns-2 : tie.Need-returns-2
 returns-2 c = rw (tests (c .before .before .before), stale-0 (c .before), c .if2 .taken)
-
-bit-requires-2 : tie.Need-bit-requires-2
-bit-requires-2 c κs = search needs
-
-stale-requires-2 : tie.Need-stale-requires-2
-stale-requires-2 c κs = search needs
 
 returns-3 : tie.Need-returns-3
 returns-3 c =
     let s = c .before .before .before in
     rw (tests (s .before .before .before), stale-0 (s .before), s .if2 .left, stale-1 (c .before), c .if3 .taken)
-
-bit-requires-3 : tie.Need-bit-requires-3
-bit-requires-3 c κs = search needs
-
-stale-requires-3 : tie.Need-stale-requires-3
-stale-requires-3 c κs = search needs
 
 returns-4 : tie.Need-returns-4
 returns-4 c =
@@ -98,13 +77,13 @@ fresh-spec =
     tie.close
     (tie.spec
     returns
-    reads-requires
-    bit-requires
-    stale-requires
+    (λ c κs. search needs)
+    (λ c κs. search needs)
+    (λ c κs. search needs)
     returns-2
-    bit-requires-2
-    stale-requires-2
+    (λ c κs. search needs)
+    (λ c κs. search needs)
     returns-3
-    bit-requires-3
-    stale-requires-3
+    (λ c κs. search needs)
+    (λ c κs. search needs)
     returns-4)

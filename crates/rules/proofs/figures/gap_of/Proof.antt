@@ -9,24 +9,12 @@ use Rattle.rules.proofs.MethodLaws.{gap-by}
 use Rattle.rules.proofs.figures.gap_of.Statement.{statement}
 use Rattle.rules.proofs.figures.gap_of.Tie as tie
 
-is-reading-requires : tie.Need-is-reading-requires
-is-reading-requires c κs = search needs
-
 returns : tie.Need-returns
 returns c =
     let s = c .before .before in
     let f = figuresOf (s .args .used) (s .args .promised) (s .args .state) in
     let e = gap-by f (kindAt diskTable (s .args .m)) (s .args .value) in
     (rw (← c .before .is-reading .ensures, c .if1 .taken) at e, omega arith)
-
-is-add-requires : tie.Need-is-add-requires
-is-add-requires c κs = search needs
-
-size-requires : tie.Need-size-requires
-size-requires c κs = search needs
-
-cast-result : tie.Need-cast-result
-cast-result c = search needs
 
 returns-2 : tie.Need-returns-2
 returns-2 c =
@@ -37,12 +25,6 @@ returns-2 c =
     let e = gap-by f (kindAt diskTable (s .args .m)) (s .args .value) in
     let is = rw (← r .is-reading .ensures, a .before .if1 .left, ← a .is-add .ensures, c .before .if2 .taken) at e in
     (rw (c .size .ensures .0, toZ-ofZ (s .fits .value)) is, omega arith)
-
-written-requires : tie.Need-written-requires
-written-requires c κs = search needs
-
-gap-requires : tie.Need-gap-requires
-gap-requires c κs = search needs
 
 returns-3 : tie.Need-returns-3
 returns-3 c =
@@ -59,12 +41,12 @@ pub gap-of-spec : {M : Type 1} → statement M
 gap-of-spec =
     tie.close
     (tie.spec
-    is-reading-requires
+    (λ c κs. search needs)
     returns
-    is-add-requires
-    size-requires
-    cast-result
+    (λ c κs. search needs)
+    (λ c κs. search needs)
+    (λ c. search needs)
     returns-2
-    written-requires
-    gap-requires
+    (λ c κs. search needs)
+    (λ c κs. search needs)
     returns-3)

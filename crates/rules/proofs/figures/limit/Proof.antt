@@ -8,9 +8,6 @@ use Rattle.rules.proofs.RuleLaws.{limit-reads, limit-writes}
 use Rattle.rules.proofs.figures.limit.Statement.{statement}
 use Rattle.rules.proofs.figures.limit.Tie as tie
 
-is-reading-requires : tie.Need-is-reading-requires
-is-reading-requires c κs = search needs
-
 returns : tie.Need-returns
 returns c =
     let r = c .before in
@@ -18,9 +15,6 @@ returns c =
     let f = figuresOf (a .used) (a .promised) (a .state) in
     let k = kindAt diskTable (a .m) in
     sym (limit-reads f k (a .error) (sym (r .is-reading .ensures) ∙ c .if1 .taken))
-
-written-requires : tie.Need-written-requires
-written-requires c κs = search needs
 
 returns-2 : tie.Need-returns-2
 returns-2 c =
@@ -32,4 +26,4 @@ returns-2 c =
     rw (c .written .ensures) (sym e)
 
 pub limit-spec : {M : Type 1} → statement M
-limit-spec = tie.close (tie.spec is-reading-requires returns written-requires returns-2)
+limit-spec = tie.close (tie.spec (λ c κs. search needs) returns (λ c κs. search needs) returns-2)

@@ -9,24 +9,6 @@ use Rattle.rules.proofs.RuleLaws.{pre-over, pre-adds, pre-carries, pre-
 use Rattle.rules.proofs.figures.preconditions.Statement.{statement}
 use Rattle.rules.proofs.figures.preconditions.Tie as tie
 
-is-add-requires : tie.Need-is-add-requires
-is-add-requires c κs = search needs
-
-written-requires : tie.Need-written-requires
-written-requires c κs = search needs
-
-cast-if2 : tie.Need-cast-if2
-cast-if2 c = search needs
-
-cast-if2-2 : tie.Need-cast-if2-2
-cast-if2-2 c = search needs
-
-cast-if2-3 : tie.Need-cast-if2-3
-cast-if2-3 c = search needs
-
-add-if2 : tie.Need-add-if2
-add-if2 c = search needs
-
 returns : tie.Need-returns
 unfolding preOf
 returns c =
@@ -37,27 +19,6 @@ returns c =
     let k = kindAt diskTable (a .c .method) in
     let add = sym (d .is-add .ensures) ∙ w .before .if1 .taken in
     sym (pre-over f (a .now) (a .adds) (a .c) k add (rw (w .written .ensures) at (c .if2 .taken)))
-
-size-requires : tie.Need-size-requires
-size-requires c κs = search needs
-
-cast-result : tie.Need-cast-result
-cast-result c = search needs
-
-add-result : tie.Need-add-result
-add-result c = search needs
-
-size-requires-2 : tie.Need-size-requires-2
-size-requires-2 c κs = search needs
-
-cast-result-2 : tie.Need-cast-result-2
-cast-result-2 c = search needs
-
-add-result-2 : tie.Need-add-result-2
-add-result-2 c = search needs
-
-cast-result-3 : tie.Need-cast-result-3
-cast-result-3 c = search needs
 
 returns-2 : tie.Need-returns-2
 unfolding preOf
@@ -80,15 +41,6 @@ returns-2 c =
     )
     (sym e)
 
-is-reading-requires : tie.Need-is-reading-requires
-is-reading-requires c κs = search needs
-
-cast-if4 : tie.Need-cast-if4
-cast-if4 c = search needs
-
-carried-requires : tie.Need-carried-requires
-carried-requires c κs = search needs
-
 returns-3 : tie.Need-returns-3
 unfolding preOf
 returns-3 c =
@@ -99,9 +51,6 @@ returns-3 c =
     let k = kindAt diskTable (a .c .method) in
     let reading = sym (r .is-reading .ensures) ∙ t .before .before .if3 .taken in
     sym (pre-carries f (a .now) (a .adds) (a .c) k reading (rw (t .carried .ensures .0) at (c .if4 .taken)))
-
-fresh-requires : tie.Need-fresh-requires
-fresh-requires c κs = search needs
 
 returns-4 : tie.Need-returns-4
 unfolding preOf
@@ -132,25 +81,25 @@ pub preconditions-spec : {M : Type 1} → statement M
 preconditions-spec =
     tie.close
     (tie.spec
-    is-add-requires
-    written-requires
-    cast-if2
-    cast-if2-2
-    cast-if2-3
-    add-if2
+    (λ c κs. search needs)
+    (λ c κs. search needs)
+    (λ c. search needs)
+    (λ c. search needs)
+    (λ c. search needs)
+    (λ c. search needs)
     returns
-    size-requires
-    cast-result
-    add-result
-    size-requires-2
-    cast-result-2
-    add-result-2
-    cast-result-3
+    (λ c κs. search needs)
+    (λ c. search needs)
+    (λ c. search needs)
+    (λ c κs. search needs)
+    (λ c. search needs)
+    (λ c. search needs)
+    (λ c. search needs)
     returns-2
-    is-reading-requires
-    cast-if4
-    carried-requires
+    (λ c κs. search needs)
+    (λ c. search needs)
+    (λ c κs. search needs)
     returns-3
-    fresh-requires
+    (λ c κs. search needs)
     returns-4
     returns-5)

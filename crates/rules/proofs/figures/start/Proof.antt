@@ -8,12 +8,6 @@ use Rattle.rules.proofs.RuleLaws.{start-reads, start-adds, start-sets}
 use Rattle.rules.proofs.figures.start.Statement.{statement}
 use Rattle.rules.proofs.figures.start.Tie as tie
 
-is-reading-requires : tie.Need-is-reading-requires
-is-reading-requires c κs = search needs
-
-carried-requires : tie.Need-carried-requires
-carried-requires c κs = search needs
-
 returns : tie.Need-returns
 returns c =
     let r = c .before .before in
@@ -22,18 +16,6 @@ returns c =
     let k = kindAt diskTable (a .m) in
     let e = start-reads f k (a .error) (sym (r .is-reading .ensures) ∙ c .before .if1 .taken) in
     (c .carried .ensures .0 ∙ sym e, c .carried .ensures .1)
-
-is-add-requires : tie.Need-is-add-requires
-is-add-requires c κs = search needs
-
-written-requires : tie.Need-written-requires
-written-requires c κs = search needs
-
-cast-result : tie.Need-cast-result
-cast-result c = search needs
-
-add-result : tie.Need-add-result
-add-result c = search needs
 
 returns-2 : tie.Need-returns-2
 returns-2 c =
@@ -60,12 +42,12 @@ pub start-spec : {M : Type 1} → statement M
 start-spec =
     tie.close
     (tie.spec
-    is-reading-requires
-    carried-requires
+    (λ c κs. search needs)
+    (λ c κs. search needs)
     returns
-    is-add-requires
-    written-requires
-    cast-result
-    add-result
+    (λ c κs. search needs)
+    (λ c κs. search needs)
+    (λ c. search needs)
+    (λ c. search needs)
     returns-2
     returns-3)

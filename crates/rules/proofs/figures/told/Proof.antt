@@ -24,32 +24,11 @@ fits z h = size-fits w64 z (omega arith)
 sum-back : (a b : ℤ) → size a + size b ≤ 6442450944 → toZ w64 (ofZ w64 a) +ℤ toZ w64 (ofZ w64 b) ≡ a +ℤ b
 sum-back a b h = rw (toZ-ofZ (fits a (omega arith)), toZ-ofZ (fits b (omega arith)))
 
-reads-requires : tie.Need-reads-requires
-reads-requires c κs = search needs
-
-bit-requires : tie.Need-bit-requires
-bit-requires c κs = search needs
-
-signed-if-read-requires : tie.Need-signed-if-read-requires
-signed-if-read-requires c κs = search needs
-
-bit-requires-2 : tie.Need-bit-requires-2
-bit-requires-2 c κs = search needs
-
-signed-if-read-requires-2 : tie.Need-signed-if-read-requires-2
-signed-if-read-requires-2 c κs = search needs
-
 add-result : tie.Need-add-result
 add-result c =
     let a = c .before .before .before .signed-if-read .result in
     let b = c .signed-if-read2 .result in
     rw (sum-back a b (omega arith)) (fits (a +ℤ b) (omega (arith, size-add a b)))
-
-bit-requires-3 : tie.Need-bit-requires-3
-bit-requires-3 c κs = search needs
-
-signed-if-read-requires-3 : tie.Need-signed-if-read-requires-3
-signed-if-read-requires-3 c κs = search needs
 
 add-result-2 : tie.Need-add-result-2
 add-result-2 c =
@@ -92,13 +71,13 @@ pub told-spec : {M : Type 1} → statement M
 told-spec =
     tie.close
     (tie.spec
-    reads-requires
-    bit-requires
-    signed-if-read-requires
-    bit-requires-2
-    signed-if-read-requires-2
+    (λ c κs. search needs)
+    (λ c κs. search needs)
+    (λ c κs. search needs)
+    (λ c κs. search needs)
+    (λ c κs. search needs)
     add-result
-    bit-requires-3
-    signed-if-read-requires-3
+    (λ c κs. search needs)
+    (λ c κs. search needs)
     add-result-2
     returns)

@@ -5,21 +5,12 @@ use Rattle.rules.proofs.MethodLaws.{written-of}
 use Rattle.rules.proofs.figures.written.Statement.{statement}
 use Rattle.rules.proofs.figures.written.Tie as tie
 
-writes-requires : tie.Need-writes-requires
-writes-requires c κs = search needs
-
-bit-requires : tie.Need-bit-requires
-bit-requires c κs = search needs
-
 returns : tie.Need-returns
 returns c =
     let w = c .before .before in
     let s = w .before in
     let f = figuresOf (s .args .used) (s .args .promised) (s .args .state) in
     rw (← w .writes .ensures, ← c .before .bit .ensures, c .if1 .taken) at (written-of f (s .args .m))
-
-bit-requires-2 : tie.Need-bit-requires-2
-bit-requires-2 c κs = search needs
 
 returns-2 : tie.Need-returns-2
 returns-2 c =
@@ -41,4 +32,4 @@ returns-3 c =
 
 pub written-spec : {M : Type 1} → statement M
 written-spec =
-    tie.close (tie.spec writes-requires bit-requires returns bit-requires-2 returns-2 returns-3)
+    tie.close (tie.spec (λ c κs. search needs) (λ c κs. search needs) returns (λ c κs. search needs) returns-2 returns-3)

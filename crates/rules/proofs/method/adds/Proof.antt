@@ -1,16 +1,14 @@
--- One method adds.
-use Rattle.law.specs.DiskType.{diskTable}
-use Rattle.rules.specs.Methods.{addMask}
-use Rattle.rules.proofs.MethodLaws.{add-none}
+-- One of the masks.
+use borrow.Author.Needs.{needs}
+use mathlib.Core.Path.{ap}
+use Rattle.rules.specs.declared.method.Masks.{Masks}
+use Rattle.rules.specs.Masks.{masksBy, masksOf}
 use Rattle.rules.proofs.method.adds.Statement.{statement}
 use Rattle.rules.proofs.method.adds.Tie as tie
 
 returns : tie.Need-returns
-unfolding addMask diskTable
-returns c = rw (c .match .keys1)
-
-returns-2 : tie.Need-returns-2
-returns-2 c = add-none (c .before .args .m) (c .match .rest .1)
+unfolding masksBy masksOf
+returns c = ap (λ (k : Masks). k .adds) (c .masks-of .ensures)
 
 pub adds-spec : {M : Type 1} → statement M
-adds-spec = tie.close (tie.spec returns returns-2)
+adds-spec = tie.close (tie.spec (λ c κs. search needs) returns)

@@ -7,15 +7,6 @@ use Rattle.rules.proofs.EntryLaws.{add-is}
 use Rattle.rules.proofs.pair.add_part.Statement.{statement}
 use Rattle.rules.proofs.pair.add_part.Tie as tie
 
-is-add-requires : tie.Need-is-add-requires
-is-add-requires c κs = search needs
-
-size-requires : tie.Need-size-requires
-size-requires c κs = search needs
-
-cast-result : tie.Need-cast-result
-cast-result c = search needs
-
 returns : tie.Need-returns
 unfolding addOf
 returns c =
@@ -31,4 +22,4 @@ returns-2 c =
     (rw (← add-is (x .method), ← c .before .is-add .ensures, c .if1 .left), omega arith)
 
 pub add-part-spec : {M : Type 1} → statement M
-add-part-spec = tie.close (tie.spec is-add-requires size-requires cast-result returns returns-2)
+add-part-spec = tie.close (tie.spec (λ c κs. search needs) (λ c κs. search needs) (λ c. search needs) returns returns-2)

@@ -13,18 +13,12 @@ returns c =
     let a = c .before .before .args in
     rw (lt-leb (a .priority) (a .w .priority) (c .if1 .taken))
 
-is-always-requires : tie.Need-is-always-requires
-is-always-requires c κs = search needs
-
 returns-2 : tie.Need-returns-2
 unfolding barsBy
 returns-2 c =
     let k = c .before in
     let a = k .before .before .before .args in
     rw (le-leb (a .priority) (a .w .priority) (k .before .if1 .left), ← k .is-always .ensures, c .if2 .taken)
-
-preconditions-requires : tie.Need-preconditions-requires
-preconditions-requires c κs = search needs
 
 returns-3 : tie.Need-returns-3
 unfolding barsBy
@@ -35,4 +29,4 @@ returns-3 c =
     (c .preconditions .ensures ∙ last-test _)
 
 pub bars-spec : {M : Type 1} → statement M
-bars-spec = tie.close (tie.spec returns is-always-requires returns-2 preconditions-requires returns-3)
+bars-spec = tie.close (tie.spec returns (λ c κs. search needs) returns-2 (λ c κs. search needs) returns-3)

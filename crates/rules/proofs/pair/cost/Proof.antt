@@ -5,24 +5,6 @@ use mir.Facts.{toZ-ofZ}
 use Rattle.rules.proofs.pair.cost.Statement.{statement}
 use Rattle.rules.proofs.pair.cost.Tie as tie
 
-enum-told : tie.Need-enum-told
-enum-told c = search needs
-
-enum-told-2 : tie.Need-enum-told-2
-enum-told-2 c = search needs
-
-enum-told-3 : tie.Need-enum-told-3
-enum-told-3 c = search needs
-
-gap-requires : tie.Need-gap-requires
-gap-requires c κs = search needs
-
-enum-told-4 : tie.Need-enum-told-4
-enum-told-4 c = search needs
-
-gap-of-requires : tie.Need-gap-of-requires
-gap-of-requires c κs = search needs
-
 returns : tie.Need-returns
 returns c =
     let k = c .before .before in
@@ -50,12 +32,12 @@ pub cost-spec : {M : Type 1} → statement M
 cost-spec =
     tie.close
     (tie.spec
-    enum-told
-    enum-told-2
-    enum-told-3
-    gap-requires
-    enum-told-4
-    gap-of-requires
+    (λ c. search needs)
+    (λ c. search needs)
+    (λ c. search needs)
+    (λ c κs. search needs)
+    (λ c. search needs)
+    (λ c κs. search needs)
     returns
     returns-2
     returns-3

@@ -5,15 +5,6 @@ use mir.Facts.{toZ-ofZ}
 use Rattle.rules.proofs.pair.raise_of.Statement.{statement}
 use Rattle.rules.proofs.pair.raise_of.Tie as tie
 
-cast-result : tie.Need-cast-result
-cast-result c = search needs
-
-gap-of-requires : tie.Need-gap-of-requires
-gap-of-requires c κs = search needs
-
-add-result : tie.Need-add-result
-add-result c = search needs
-
 returns : tie.Need-returns
 returns c =
     let e =
@@ -21,4 +12,4 @@ returns c =
     (omega (arith, e), omega (arith, c .gap-of .ensures .1))
 
 pub raise-of-spec : {M : Type 1} → statement M
-raise-of-spec = tie.close (tie.spec cast-result gap-of-requires add-result returns)
+raise-of-spec = tie.close (tie.spec (λ c. search needs) (λ c κs. search needs) (λ c. search needs) returns)

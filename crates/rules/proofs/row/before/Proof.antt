@@ -24,12 +24,6 @@ module _ (p q t u : ℕ) (first : t < 4_294_967_296) (second : u < 4_294_967_296
       let l : p < q = omega (arith, ltb-false q p e, eqb-false p q g) in
       le-ltb (q * 4_294_967_296 + t) (p * 4_294_967_296 + u) (omega arith)
 
-joined-requires : tie.Need-joined-requires
-joined-requires c κs = search needs
-
-joined-requires-2 : tie.Need-joined-requires-2
-joined-requires-2 c κs = search needs
-
 returns : tie.Need-returns
 returns c =
     let a = c .before .before .args in
@@ -40,4 +34,4 @@ returns c =
     (ltb (a .y .priority) (a .x .priority)) (eqb (a .x .priority) (a .y .priority)) refl refl)
 
 pub before-spec : {M : Type 1} → statement M
-before-spec = tie.close (tie.spec joined-requires joined-requires-2 returns)
+before-spec = tie.close (tie.spec (λ c κs. search needs) (λ c κs. search needs) returns)

@@ -38,63 +38,6 @@ laid : (kind disk method priority flag : ℕ) (w : List ℕ) → length w ≡ 4 
 unfolding putWord flat le4
 laid kind disk method priority flag w h = ap (laidOut kind disk method priority flag) (four w h)
 
-array-write-r : tie.Need-array-write-r
-array-write-r c = search needs
-
-array-write-r-2 : tie.Need-array-write-r-2
-array-write-r-2 c = search needs
-
-array-write-r-3 : tie.Need-array-write-r-3
-array-write-r-3 c = search needs
-
-array-write-r-4 : tie.Need-array-write-r-4
-array-write-r-4 c = search needs
-
-array-write-r-5 : tie.Need-array-write-r-5
-array-write-r-5 c = search needs
-
-array-write-r-6 : tie.Need-array-write-r-6
-array-write-r-6 c = search needs
-
-array-write-r-7 : tie.Need-array-write-r-7
-array-write-r-7 c = search needs
-
-slice-aggregate-put-word : tie.Need-slice-aggregate-put-word
-slice-aggregate-put-word c = search needs
-
-array-read-put-word : tie.Need-array-read-put-word
-array-read-put-word c = search needs
-
-put-word-requires : tie.Need-put-word-requires
-put-word-requires c κs = search needs
-
-slice-aggregate-put-word-2 : tie.Need-slice-aggregate-put-word-2
-slice-aggregate-put-word-2 c = search needs
-
-array-read-put-word-2 : tie.Need-array-read-put-word-2
-array-read-put-word-2 c = search needs
-
-put-word-requires-2 : tie.Need-put-word-requires-2
-put-word-requires-2 c κs = search needs
-
-slice-aggregate-put-word-3 : tie.Need-slice-aggregate-put-word-3
-slice-aggregate-put-word-3 c = search needs
-
-array-read-put-word-3 : tie.Need-array-read-put-word-3
-array-read-put-word-3 c = search needs
-
-put-word-requires-3 : tie.Need-put-word-requires-3
-put-word-requires-3 c κs = search needs
-
-slice-aggregate-put-word-4 : tie.Need-slice-aggregate-put-word-4
-slice-aggregate-put-word-4 c = search needs
-
-array-read-put-word-4 : tie.Need-array-read-put-word-4
-array-read-put-word-4 c = search needs
-
-put-word-requires-4 : tie.Need-put-word-requires-4
-put-word-requires-4 c κs = search needs
-
 returns : tie.Need-returns
 returns c =
     let p4 = c .before in
@@ -114,23 +57,23 @@ pub laid-out-spec : {M : Type 1} → statement M
 laid-out-spec =
     tie.close
     (tie.spec
-    array-write-r
-    array-write-r-2
-    array-write-r-3
-    array-write-r-4
-    array-write-r-5
-    array-write-r-6
-    array-write-r-7
-    slice-aggregate-put-word
-    array-read-put-word
-    put-word-requires
-    slice-aggregate-put-word-2
-    array-read-put-word-2
-    put-word-requires-2
-    slice-aggregate-put-word-3
-    array-read-put-word-3
-    put-word-requires-3
-    slice-aggregate-put-word-4
-    array-read-put-word-4
-    put-word-requires-4
+    (λ c. search needs)
+    (λ c. search needs)
+    (λ c. search needs)
+    (λ c. search needs)
+    (λ c. search needs)
+    (λ c. search needs)
+    (λ c. search needs)
+    (λ c. search needs)
+    (λ c. search needs)
+    (λ c κs. search needs)
+    (λ c. search needs)
+    (λ c. search needs)
+    (λ c κs. search needs)
+    (λ c. search needs)
+    (λ c. search needs)
+    (λ c κs. search needs)
+    (λ c. search needs)
+    (λ c. search needs)
+    (λ c κs. search needs)
     returns)

@@ -1,5 +1,5 @@
--- The claims before i have passed, and those from i on decide; the totals and the marks, added to by what is left from i on, are
--- those of all.
+-- The claims before i have passed, and those from i on decide, each by itself and by the totals of those before it; the totals and the
+-- marks, added to by what is left from i on, are those of all.
 use borrow.Author.Needs.{needs}
 use Prim.Native.Nat.{ℕ, _+_, _-_, _*_, _≤_}
 use mathlib.Core.Bool.{Bool, true, false}
@@ -13,7 +13,7 @@ use Rattle.law.specs.Base.{everyOf}
 use Rattle.law.specs.Lists.{never-true}
 use Rattle.law.specs.Types.{mostValue, Disk}
 use Rattle.rules.specs.declared.totals.Totals.{Totals}
-use Rattle.rules.specs.Totals.{totalsFrom, totalsOf}
+use Rattle.rules.specs.Totals.{noTotals, totalsFrom, totalsOf}
 use Rattle.rules.specs.Disks.{figuresIn}
 use Rattle.rules.proofs.TotalsLaws.{sum-is}
 use Rattle.part.specs.Layout.{decode}
@@ -24,8 +24,8 @@ use Rattle.sound.proofs.TestLaws.{failed, went, test-fails, test-last}
 use Rattle.sound.proofs.WalkLaws.{none-left, each-on, each-not}
 use Rattle.sound.proofs.AloneLaws.{add-most}
 use Rattle.sound.proofs.MarkLaws.{marks-on, marks-end}
-use Rattle.sound.proofs.MeetLaws.{sum-on, totals-on, totals-end}
-use Rattle.sound.proofs.DiskLaws.{actives, some-active, few-active, active-turn, active-by}
+use Rattle.sound.proofs.MeetLaws.{meetFrom, sum-on, totals-on, meet-on, meet-not, totals-end, meets-is}
+use Rattle.sound.proofs.DiskLaws.{actives, some-active, few-active, active-turn, active-by, ready-bounds}
 use Rattle.sound.proofs.active.actives_fit.Statement.{statement}
 use Rattle.sound.proofs.active.actives_fit.Tie as tie
 
@@ -37,15 +37,16 @@ abbrev left : List ℕ → ℕ → List Claim
 left s i = drop i (actives s)
 
 abbrev Inv : tie.InvT-loop
-Inv s most clock next n none unmarked totals₀ marks₀ i₀ totals marks i =
+Inv s most next n none unmarked totals₀ marks₀ i₀ totals marks i =
     (i ≤ n)
     × (totals .sum ≤ i * mostValue)
     × (everyOf (fit s) (left s i) ≡ everyOf (fit s) (left s 0))
+    × (meetFrom totals (left s i) ≡ meetFrom noTotals (left s 0))
     × (totalsFrom totals (left s i) ≡ totalsOf (left s 0))
     × (marksFrom marks (left s i) ≡ marksOf (left s 0))
 
 abbrev μ : tie.MeasureT-loop
-μ s most clock next n none unmarked totals₀ marks₀ i₀ totals marks i = n - i
+μ s most next n none unmarked totals₀ marks₀ i₀ totals marks i = n - i
 
 -- At the loop: what has been read, and the part.
 module _ (l : tie.At-loop Inv μ) where
@@ -53,7 +54,7 @@ module _ (l : tie.At-loop Inv μ) where
   read = l .before .before .before
 
   abbrev start : tie.Start Inv μ
-  start = read .before .before .before .before .before
+  start = read .before .before .before .before
 
   abbrev part : List ℕ
   part = start .args .s .now
@@ -68,8 +69,8 @@ module _ (l : tie.At-loop Inv μ) where
   few = few-active (ready .disk)
 
   fits : (x : Claim) →
-      activeBy (start .args .most .now) (read .before .before .clock-at .result) (read .before .next-at .result) x ≡ fit part x
-  fits = active-by ready _ _ (read .before .before .clock-at .ensures) (read .before .next-at .ensures)
+      activeBy (start .args .most .now) (read .before .next-at .result) x ≡ fit part x
+  fits = active-by ready _ (read .before .next-at .ensures)
 
 -- In a turn: the claim at i, and those behind it.
 module _ (a : tie.After-active-at Inv μ) where
@@ -78,6 +79,10 @@ module _ (a : tie.After-active-at Inv μ) where
 
   here : left (part walk) (walk .loop .i) ≡ a .active-at .result ∷ left (part walk) (walk .loop .i + 1)
   here = active-turn (ready walk .disk) _ _ refl (omega (arith, a .before .loop-test .taken, count walk)) (a .active-at .ensures)
+
+-- From where a claim is let in by those before it, where it is read.
+abbrev at-turn : tie.Else2 Inv μ → tie.After-active-at Inv μ
+at-turn k = k .before .before .before .before
 
 -- Behind the loop: nothing is left.
 module _ (e : tie.After-loop Inv μ) where
@@ -90,37 +95,22 @@ module _ (e : tie.After-loop Inv μ) where
   each-is : eachActive (held (part done)) ≡ true
   each-is = sym (done .loop .inv .2) ∙ ap (everyOf (fit (part done))) none
 
+  meets-are : everyMeets (held (part done)) ≡ true
+  meets-are = sym (meets-is (actives (part done))) ∙ sym (done .loop .inv .3) ∙ totals-end (done .loop .totals) none .1
+
   totals-is : done .loop .totals ≡ totalsOf (actives (part done))
-  totals-is = sym (totals-end (done .loop .totals) none .0) ∙ done .loop .inv .3
+  totals-is = sym (totals-end (done .loop .totals) none .0) ∙ done .loop .inv .4
 
   marks-is : done .loop .marks ≡ marksOf (actives (part done))
-  marks-is = sym (marks-end (done .loop .marks) none) ∙ done .loop .inv .4
+  marks-is = sym (marks-end (done .loop .marks) none) ∙ done .loop .inv .5
 
 -- A test has failed: what is handed on is not looked at.
 wrong : (d : Disk) (j : ℕ) {P Q : Type 0} → getD (activesTests d) j true ≡ false →
     (false ≡ activesFit d) × ((false ≡ true → P) × (false ≡ true → Q))
 wrong d j e = (test-fails (activesTests d) j e, ((λ t. never-true _ t), λ t. never-true _ t))
 
-clock-at-requires : tie.Need-clock-at-requires Inv μ
-clock-at-requires c κs = search needs
-
-next-at-requires : tie.Need-next-at-requires Inv μ
-next-at-requires c κs = search needs
-
-actives-at-requires : tie.Need-actives-at-requires Inv μ
-actives-at-requires c κs = search needs
-
-cast-n : tie.Need-cast-n Inv μ
-cast-n c = search needs
-
-no-totals-requires : tie.Need-no-totals-requires Inv μ
-no-totals-requires c κs = tt
-
-no-marks-requires : tie.Need-no-marks-requires Inv μ
-no-marks-requires c κs = tt
-
 loop-holds : tie.Need-loop-holds Inv μ
-loop-holds c = rw (c .no-marks .ensures, c .before .no-totals .ensures) (omega arith, omega arith, refl, refl, refl)
+loop-holds c = rw (c .no-marks .ensures, c .before .no-totals .ensures) (omega arith, omega arith, refl, refl, refl, refl)
 
 active-at-requires : tie.Need-active-at-requires Inv μ
 active-at-requires c κs =
@@ -128,7 +118,7 @@ active-at-requires c κs =
     (ready l .disk .long, omega (arith, c .loop-test .taken, count l, few l))
 
 active-fits-requires : tie.Need-active-fits-requires Inv μ
-active-fits-requires c κs = ap length (ready (walk c) .row)
+active-fits-requires c κs = ready-bounds (ready (walk c))
 
 returns : tie.Need-returns Inv μ
 returns c =
@@ -138,28 +128,34 @@ returns c =
     wrong (held s) 0
     (sym (l .loop .inv .2) ∙ each-not (here a) (fit s) (failed (c .before .active-fits .ensures ∙ fits l _) (c .if1 .taken)))
 
+returns-2 : tie.Need-returns-2 Inv μ
+returns-2 c =
+    let k = c .before in
+    let a = k .before .before .before in
+    let l = walk a in
+    wrong (held (part l)) 1
+    (sym (meets-is (actives (part l))) ∙ sym (l .loop .inv .3) ∙ meet-not (l .loop .totals) (here a) (sym (k .keep-out .ensures) ∙ c .if2 .taken))
+
 with-claim-requires : tie.Need-with-claim-requires Inv μ
 with-claim-requires c κs =
-    let t = c .before .before .before in
+    let t = at-turn c .before in
     let l = t .before in
     omega (arith, l .loop .inv .1, t .loop-test .taken, count l, few l)
 
-with-ticket-requires : tie.Need-with-ticket-requires Inv μ
-with-ticket-requires c κs = tt
-
 add-i : tie.Need-add-i Inv μ
 add-i c =
-    let t = c .before .before .before .before .before in
+    let t = at-turn (c .before .before) .before in
     record { fits = omega (arith, t .loop-test .taken, count (t .before), few (t .before)) }
 
 loop-less : tie.Need-loop-less Inv μ
-loop-less c = omega (arith, c .before .before .before .before .before .loop-test .taken)
+loop-less c = omega (arith, at-turn (c .before .before) .before .loop-test .taken)
 
 loop-again : tie.Need-loop-again Inv μ
 loop-again c =
     let w = c .before in
-    let passed = w .before in
-    let a = passed .before .before in
+    let let-in = w .before in
+    let passed = let-in .before .before in
+    let a = at-turn let-in in
     let l = walk a in
     let s = part l in
     let t = l .loop .totals in
@@ -169,45 +165,28 @@ loop-again c =
       omega (arith, a .before .loop-test .taken),
       omega (arith, l .loop .inv .1, sum-on t m sum, add-most _ _ _ _ ok),
       each-on m (fit s) ok ∙ l .loop .inv .2,
-      totals-on t m sum ∙ l .loop .inv .3,
-      marks-on (l .loop .marks) m (c .with-ticket .ensures) ∙ l .loop .inv .4,
+      meet-on t m sum (sym (let-in .before .keep-out .ensures) ∙ let-in .if2 .left) ∙ l .loop .inv .3,
+      totals-on t m sum ∙ l .loop .inv .4,
+      marks-on (l .loop .marks) m (c .with-ticket .ensures) ∙ l .loop .inv .5,
     )
 
-none-clash-requires : tie.Need-none-clash-requires Inv μ
-none-clash-requires c κs = (ready (done c) .disk, totals-is c)
-
-returns-2 : tie.Need-returns-2 Inv μ
-returns-2 c =
-    let e = c .before .before in
-    wrong (held (part (done e))) 1 (failed (c .before .none-clash .ensures) (c .if2 .taken))
-
 promised-at-requires : tie.Need-promised-at-requires Inv μ
-promised-at-requires c κs = ready (done (c .before .before)) .disk .long
-
-size-requires : tie.Need-size-requires Inv μ
-size-requires c κs = tt
-
-cast-ok : tie.Need-cast-ok Inv μ
-cast-ok c = search needs
+promised-at-requires c κs = ready (done c) .disk .long
 
 add-ok : tie.Need-add-ok Inv μ
 add-ok c =
-    let l = c .before .before .before .before .before .before .before in
+    let l = c .before .before .before .before .before in
     record { fits = omega (arith, l .loop .inv .0, l .loop .inv .1, count l, few l, c .before .size .ensures .1) }
-
-cast-ok-2 : tie.Need-cast-ok-2 Inv μ
-cast-ok-2 c = search needs
 
 returns-3 : tie.Need-returns-3 Inv μ
 returns-3 c =
     let z = c .before in
     let p = z .before .before in
-    let met = p .before in
-    let e = met .before .before in
+    let e = p .before in
     let d = held (part (done e)) in
     let v = rw (toZ-ofZ (record { sfits = z .before .struct-told .given .0 .1 })) at (z .size .ensures .0) in (
       rw (v, ap (λ (t : Totals). t .sum) (totals-is e) ∙ sum-is (d .core .active), p .promised-at .ensures)
-          (test-last (activesFront d) (sumTest d) (each-is e, (went (met .before .none-clash .ensures) (met .if2 .left), tt))),
+          (test-last (activesFront d) (sumTest d) (each-is e, (meets-are e, tt))),
       ((λ h. totals-is e), (λ h. marks-is e)),
     )
 
@@ -217,26 +196,25 @@ actives-fit-spec =
     (tie.spec
     Inv
     μ
-    clock-at-requires
-    next-at-requires
-    actives-at-requires
-    cast-n
-    no-totals-requires
-    no-marks-requires
+    (λ c κs. search needs)
+    (λ c κs. search needs)
+    (λ c. search needs)
+    (λ c κs. tt)
+    (λ c κs. tt)
     loop-holds
     active-at-requires
     active-fits-requires
     returns
+    (λ c κs. search needs)
+    returns-2
     with-claim-requires
-    with-ticket-requires
+    (λ c κs. tt)
     add-i
     loop-less
     loop-again
-    none-clash-requires
-    returns-2
     promised-at-requires
-    size-requires
-    cast-ok
+    (λ c κs. tt)
+    (λ c. search needs)
     add-ok
-    cast-ok-2
+    (λ c. search needs)
     returns-3)

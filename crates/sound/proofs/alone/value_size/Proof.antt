@@ -5,15 +5,6 @@ use mir.Facts.{toZ-ofZ}
 use Rattle.sound.proofs.alone.value_size.Statement.{statement}
 use Rattle.sound.proofs.alone.value_size.Tie as tie
 
-sets-state-requires : tie.Need-sets-state-requires
-sets-state-requires c κs = search needs
-
-to-word-requires : tie.Need-to-word-requires
-to-word-requires c κs = search needs
-
-size-requires : tie.Need-size-requires
-size-requires c κs = search needs
-
 returns : tie.Need-returns
 returns c =
     let t = c .before .before in
@@ -27,4 +18,4 @@ returns-2 c =
     (rw (toZ-ofZ (record { sfits = c .before .struct-told2 .given .1 .1 .1 .1 .1 .0 .1 })) at (c .size .ensures .0))
 
 pub value-size-spec : {M : Type 1} → statement M
-value-size-spec = tie.close (tie.spec sets-state-requires to-word-requires size-requires returns returns-2)
+value-size-spec = tie.close (tie.spec (λ c κs. search needs) (λ c κs. search needs) (λ c κs. search needs) returns returns-2)

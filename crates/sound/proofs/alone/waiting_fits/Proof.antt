@@ -15,7 +15,7 @@ use Rattle.sound.proofs.alone.waiting_fits.Tie as tie
 
 -- At the start: the tests but the last, and all.
 abbrev front : tie.Start → List Bool
-front s = let a = s .args in waitingFront (a .most .now) (a .clock) (a .next) (a .c)
+front s = let a = s .args in waitingFront (a .most .now) (a .next) (a .c)
 
 abbrev tests : tie.Start → List Bool
 tests s = front s ++ (eqb (s .args .c .amount) 0 ∷ [])
@@ -23,15 +23,9 @@ tests s = front s ++ (eqb (s .args .c .amount) 0 ∷ [])
 size-is : (c : tie.After-size) → let a = c .before .before .before .before .before .args in c .size .result ≡ size (a .c .told)
 size-is c = rw (toZ-ofZ (record { sfits = c .before .struct-told .given .1 .1 .1 .1 .1 .1 .1 .0 .1 })) at (c .size .ensures .0)
 
-alone-requires : tie.Need-alone-requires
-alone-requires c κs = search needs
-
 returns : tie.Need-returns
 unfolding waitingBy
 returns c = test-fails (tests (c .before .before .before)) 0 (failed (c .before .alone .ensures) (c .if1 .taken))
-
-size-requires : tie.Need-size-requires
-size-requires c κs = search needs
 
 returns-2 : tie.Need-returns-2
 unfolding waitingBy
@@ -51,4 +45,4 @@ returns-3 c =
     and tt)
 
 pub waiting-fits-spec : {M : Type 1} → statement M
-waiting-fits-spec = tie.close (tie.spec alone-requires returns size-requires returns-2 returns-3)
+waiting-fits-spec = tie.close (tie.spec (λ c κs. search needs) returns (λ c κs. search needs) returns-2 returns-3)

@@ -24,9 +24,6 @@ at-value k = k .before .before .before
 value-is : (c : tie.After-within) → c .within .result ≡ leb (size (c .before .before .args .a .value)) mostValue
 value-is c = rw (toZ-ofZ (record { sfits = c .before .struct-told .given .0 .1 })) at (c .within .ensures)
 
-within-requires : tie.Need-within-requires
-within-requires c κs = search needs
-
 returns : tie.Need-returns
 unfolding figureFits
 returns c = test-fails (tests (c .before .before .before)) 0 (failed (value-is (c .before)) (c .if1 .taken))
@@ -50,4 +47,4 @@ returns-4 c =
     (went (value-is (value .before)) (value .if1 .left) and le-leb _ _ (limit .if2 .left) and le-leb _ _ (amount .if3 .left) and tt)
 
 pub figure-fits-spec : {M : Type 1} → statement M
-figure-fits-spec = tie.close (tie.spec within-requires returns returns-2 returns-3 returns-4)
+figure-fits-spec = tie.close (tie.spec (λ c κs. search needs) returns returns-2 returns-3 returns-4)

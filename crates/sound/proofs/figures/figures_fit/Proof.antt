@@ -31,22 +31,13 @@ returns-2 : tie.Need-returns-2
 unfolding figuresFit
 returns-2 c = test-fails (tests (c .before .before)) 1 (lt-leb _ _ (c .if2 .taken))
 
-figure-fits-requires : tie.Need-figure-fits-requires
-figure-fits-requires c κs = search needs
-
 returns-3 : tie.Need-returns-3
 unfolding figuresFit
 returns-3 c = test-fails (tests (at-next (c .before .before))) 2 (failed (c .before .figure-fits .ensures) (c .if3 .taken))
 
-figure-fits-requires-2 : tie.Need-figure-fits-requires-2
-figure-fits-requires-2 c κs = search needs
-
 returns-4 : tie.Need-returns-4
 unfolding figuresFit figureFits
 returns-4 c = test-fails (tests (at-next (c .before .before .before .before))) 3 (failed (c .before .figure-fits2 .ensures) (c .if4 .taken))
-
-state-fits-requires : tie.Need-state-fits-requires
-state-fits-requires c κs = search needs
 
 returns-5 : tie.Need-returns-5
 unfolding figuresFit figureFits
@@ -69,9 +60,9 @@ figures-fit-spec =
     (tie.spec
     returns
     returns-2
-    figure-fits-requires
+    (λ c κs. search needs)
     returns-3
-    figure-fits-requires-2
+    (λ c κs. search needs)
     returns-4
-    state-fits-requires
+    (λ c κs. search needs)
     returns-5)

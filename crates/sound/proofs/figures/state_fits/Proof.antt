@@ -38,9 +38,6 @@ returns c =
     test-fails (tests s) 0
     (code-below (s .args .a .value) (rw (toZ-ofZ (record { sfits = c .before .struct-told .given .0 .1 })) at (c .if1 .taken)))
 
-within-requires : tie.Need-within-requires
-within-requires c κs = search needs
-
 returns-2 : tie.Need-returns-2
 unfolding figureFits
 returns-2 c = test-fails (tests (at-below (c .before .before .before))) 0 (failed (code-is (c .before)) (c .if2 .taken))
@@ -64,4 +61,4 @@ returns-5 c =
     (went (code-is (value .before)) (value .if2 .left) and eq-eqb _ _ (limit .if3 .left) and le-leb _ _ (amount .if4 .left) and tt)
 
 pub state-fits-spec : {M : Type 1} → statement M
-state-fits-spec = tie.close (tie.spec returns within-requires returns-2 returns-3 returns-4 returns-5)
+state-fits-spec = tie.close (tie.spec returns (λ c κs. search needs) returns-2 returns-3 returns-4 returns-5)

@@ -66,18 +66,6 @@ module _ (b : tie.After-claim-on2 Inv2 μ2 Inv μ) where
   there : left (part read) (walk2 .loop2 .j) ≡ b .claim-on2 .result ∷ left (part read) (walk2 .loop2 .j + 1)
   there = turn (claims (part read)) _ _ refl (omega (arith, b .before .loop2-test .taken, count read)) (b .claim-on2 .ensures)
 
-actives-at-requires : tie.Need-actives-at-requires Inv2 μ2 Inv μ
-actives-at-requires c κs = search needs
-
-cast-n : tie.Need-cast-n Inv2 μ2 Inv μ
-cast-n c = search needs
-
-waitings-at-requires : tie.Need-waitings-at-requires Inv2 μ2 Inv μ
-waitings-at-requires c κs = search needs
-
-cast-all : tie.Need-cast-all Inv2 μ2 Inv μ
-cast-all c = search needs
-
 add-all : tie.Need-add-all Inv2 μ2 Inv μ
 add-all c = record { fits = omega (arith, count c, few c) }
 
@@ -151,10 +139,10 @@ apart-spec =
     μ2
     Inv
     μ
-    actives-at-requires
-    cast-n
-    waitings-at-requires
-    cast-all
+    (λ c κs. search needs)
+    (λ c. search needs)
+    (λ c κs. search needs)
+    (λ c. search needs)
     add-all
     loop-holds
     claim-on-requires

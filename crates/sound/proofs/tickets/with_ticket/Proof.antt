@@ -4,12 +4,9 @@ use Rattle.sound.specs.Seen.{withTicket}
 use Rattle.sound.proofs.tickets.with_ticket.Statement.{statement}
 use Rattle.sound.proofs.tickets.with_ticket.Tie as tie
 
-bit-of-requires : tie.Need-bit-of-requires
-bit-of-requires c κs = search needs
-
 returns : tie.Need-returns
 unfolding withTicket
 returns c = rw (c .before .before .before .bit-of .ensures)
 
 pub with-ticket-spec : {M : Type 1} → statement M
-with-ticket-spec = tie.close (tie.spec bit-of-requires returns)
+with-ticket-spec = tie.close (tie.spec (λ c κs. search needs) returns)

@@ -59,12 +59,6 @@ module _ (b : tie.After-before2 Inv μ) where
   back : left (part walk) i ≡ second .waiting-at2 .result ∷ left (part walk) (i + 1)
   back = waiting-turn (start walk .pre) _ _ refl (omega (arith, test .loop-test .taken, count walk)) (second .waiting-at2 .ensures)
 
-waitings-at-requires : tie.Need-waitings-at-requires Inv μ
-waitings-at-requires c κs = search needs
-
-cast-n : tie.Need-cast-n Inv μ
-cast-n c = search needs
-
 loop-holds : tie.Need-loop-holds Inv μ
 loop-holds c = (omega arith, refl)
 
@@ -80,9 +74,6 @@ waiting-at-requires-2 : tie.Need-waiting-at-requires-2 Inv μ
 waiting-at-requires-2 c κs =
     let l = c .before .before in
     (start l .pre .long, omega (arith, c .before .loop-test .taken, count l, few l))
-
-before-requires : tie.Need-before-requires Inv μ
-before-requires c κs = tt
 
 returns : tie.Need-returns Inv μ
 returns c =
@@ -122,13 +113,13 @@ in-order-spec =
     (tie.spec
     Inv
     μ
-    waitings-at-requires
-    cast-n
+    (λ c κs. search needs)
+    (λ c. search needs)
     loop-holds
     sub-waiting-at
     waiting-at-requires
     waiting-at-requires-2
-    before-requires
+    (λ c κs. tt)
     returns
     add-i
     loop-less

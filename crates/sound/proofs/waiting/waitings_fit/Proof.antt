@@ -16,7 +16,7 @@ use Rattle.sound.specs.Seen.{Ready, marksFrom}
 use Rattle.sound.proofs.TestLaws.{failed, went}
 use Rattle.sound.proofs.WalkLaws.{none-left, each-on, each-not}
 use Rattle.sound.proofs.MarkLaws.{marks-on, marks-end}
-use Rattle.sound.proofs.DiskLaws.{waitings, some-waiting, few-waiting, waiting-turn, waiting-by}
+use Rattle.sound.proofs.DiskLaws.{waitings, some-waiting, few-waiting, waiting-turn, waiting-by, ready-bounds}
 use Rattle.sound.proofs.waiting.waitings_fit.Statement.{statement}
 use Rattle.sound.proofs.waiting.waitings_fit.Tie as tie
 
@@ -28,11 +28,11 @@ abbrev left : List ℕ → ℕ → List Claim
 left s i = drop i (waitings s)
 
 abbrev Inv : tie.InvT-loop
-Inv s most marks clock next n all₀ i₀ all i =
+Inv s most marks next n all₀ i₀ all i =
     (everyOf (fit s) (left s i) ≡ everyOf (fit s) (left s 0)) × (marksFrom all (left s i) ≡ marksFrom marks (left s 0))
 
 abbrev μ : tie.MeasureT-loop
-μ s most marks clock next n all₀ i₀ all i = n - i
+μ s most marks next n all₀ i₀ all i = n - i
 
 -- At the loop: what has been read, and the part.
 module _ (l : tie.At-loop Inv μ) where
@@ -40,7 +40,7 @@ module _ (l : tie.At-loop Inv μ) where
   read = l .before
 
   abbrev start : tie.Start Inv μ
-  start = read .before .before .before .before .before
+  start = read .before .before .before .before
 
   abbrev part : List ℕ
   part = start .args .s .now
@@ -55,8 +55,8 @@ module _ (l : tie.At-loop Inv μ) where
   few = few-waiting (ready .disk)
 
   fits : (x : Claim) →
-      waitingBy (start .args .most .now) (read .before .before .clock-at .result) (read .before .next-at .result) x ≡ fit part x
-  fits = waiting-by ready _ _ (read .before .before .clock-at .ensures) (read .before .next-at .ensures)
+      waitingBy (start .args .most .now) (read .before .next-at .result) x ≡ fit part x
+  fits = waiting-by ready _ (read .before .next-at .ensures)
 
 -- In a turn: the claim at i, and those behind it.
 module _ (a : tie.After-waiting-at Inv μ) where
@@ -65,18 +65,6 @@ module _ (a : tie.After-waiting-at Inv μ) where
 
   here : left (part walk) (walk .loop .i) ≡ a .waiting-at .result ∷ left (part walk) (walk .loop .i + 1)
   here = waiting-turn (ready walk .disk) _ _ refl (omega (arith, a .before .loop-test .taken, count walk)) (a .waiting-at .ensures)
-
-clock-at-requires : tie.Need-clock-at-requires Inv μ
-clock-at-requires c κs = search needs
-
-next-at-requires : tie.Need-next-at-requires Inv μ
-next-at-requires c κs = search needs
-
-waitings-at-requires : tie.Need-waitings-at-requires Inv μ
-waitings-at-requires c κs = search needs
-
-cast-n : tie.Need-cast-n Inv μ
-cast-n c = search needs
 
 loop-holds : tie.Need-loop-holds Inv μ
 loop-holds c = (refl, refl)
@@ -87,7 +75,7 @@ waiting-at-requires c κs =
     (ready l .disk .long, omega (arith, c .loop-test .taken, count l, few l))
 
 waiting-fits-requires : tie.Need-waiting-fits-requires Inv μ
-waiting-fits-requires c κs = ap length (ready (walk c) .row)
+waiting-fits-requires c κs = ready-bounds (ready (walk c))
 
 returns : tie.Need-returns Inv μ
 returns c =
@@ -97,9 +85,6 @@ returns c =
       sym (each-not (here a) (fit s) (failed (c .before .waiting-fits .ensures ∙ fits l _) (c .if1 .taken))) ∙ l .loop .inv .0,
       λ h. never-true _ h,
     )
-
-with-ticket-requires : tie.Need-with-ticket-requires Inv μ
-with-ticket-requires c κs = tt
 
 add-i : tie.Need-add-i Inv μ
 add-i c =
@@ -130,15 +115,14 @@ waitings-fit-spec =
     (tie.spec
     Inv
     μ
-    clock-at-requires
-    next-at-requires
-    waitings-at-requires
-    cast-n
+    (λ c κs. search needs)
+    (λ c κs. search needs)
+    (λ c. search needs)
     loop-holds
     waiting-at-requires
     waiting-fits-requires
     returns
-    with-ticket-requires
+    (λ c κs. tt)
     add-i
     loop-less
     loop-again

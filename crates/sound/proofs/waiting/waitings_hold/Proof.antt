@@ -47,16 +47,10 @@ module _ (o : tie.Else2) where
       ∙ sym (walk .waitings-fit .ensures .1 (not-false _ (fit .if1 .left))))
       ∙ h)
 
-waitings-fit-requires : tie.Need-waitings-fit-requires
-waitings-fit-requires c κs = search needs
-
 returns : tie.Need-returns
 returns c =
     let w = c .before .before in
     test-fails (restTests (held (part w))) 0 (failed (w .waitings-fit .ensures .0) (c .if1 .taken))
-
-in-order-requires : tie.Need-in-order-requires
-in-order-requires c κs = search needs
 
 returns-2 : tie.Need-returns-2
 returns-2 c =
@@ -69,9 +63,6 @@ returns-3 c =
     let d = held (part (walk o)) in
     sym (unmet o (c .if3 .taken)) ∙ test-last (restFront d) (ticketsDiffer d) (front o)
 
-apart-requires : tie.Need-apart-requires
-apart-requires c κs = search needs
-
 returns-4 : tie.Need-returns-4
 returns-4 c =
     let o = c .before .before .before .before in
@@ -82,10 +73,10 @@ pub waitings-hold-spec : {M : Type 1} → statement M
 waitings-hold-spec =
     tie.close
     (tie.spec
-    waitings-fit-requires
+    (λ c κs. search needs)
     returns
-    in-order-requires
+    (λ c κs. search needs)
     returns-2
     returns-3
-    apart-requires
+    (λ c κs. search needs)
     returns-4)

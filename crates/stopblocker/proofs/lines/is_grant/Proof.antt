@@ -12,19 +12,10 @@ returns : tie.Need-returns
 unfolding isGrant
 returns c = rw (lt-ltb 8 (c .before .before .args .k) (c .if1 .taken))
 
-mul-word-at : tie.Need-mul-word-at
-mul-word-at c = search needs
-
-add-word-at : tie.Need-add-word-at
-add-word-at c = search needs
-
-word-at-requires : tie.Need-word-at-requires
-word-at-requires c κs = search needs
-
 returns-2 : tie.Need-returns-2
 unfolding isGrant
 returns-2 c =
     rw (le-ltb 8 (c .before .before .before .args .k) (c .before .if1 .left)) (ap (λ x. not (eqb x 0)) (c .word-at .ensures))
 
 pub is-grant-spec : {M : Type 1} → statement M
-is-grant-spec = tie.close (tie.spec returns mul-word-at add-word-at word-at-requires returns-2)
+is-grant-spec = tie.close (tie.spec returns (λ c. search needs) (λ c. search needs) (λ c κs. search needs) returns-2)

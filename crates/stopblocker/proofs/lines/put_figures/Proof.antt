@@ -63,9 +63,6 @@ put-last-requires c κs =
       length-figures (a .code) (a .ticket) (a .told) (a .amount),
     )
 
-same-length : tie.Need-same-length
-same-length c = search needs
-
 returns : tie.Need-returns
 unfolding figures
 returns c =
@@ -87,5 +84,5 @@ put-figures-spec =
     put-next-requires-2
     put-told-requires
     put-last-requires
-    same-length
+    (λ c. search needs)
     returns)

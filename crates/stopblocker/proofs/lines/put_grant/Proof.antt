@@ -7,17 +7,11 @@ use borrow.Author.Needs.{needs}
 use Rattle.stopblocker.proofs.lines.put_grant.Statement.{statement}
 use Rattle.stopblocker.proofs.lines.put_grant.Tie as tie
 
-put-byte-requires : tie.Need-put-byte-requires
-put-byte-requires c κs = search needs
-
 put-line-requires : tie.Need-put-line-requires
 put-line-requires c κs =
     let b = c .before .before .before in
     let s = b .before .before .before .before in
     (s .pre .0, (s .pre .1 .0, omega (arith, s .pre .1 .1, b .put-byte .ensures .0)))
-
-same-length : tie.Need-same-length
-same-length c = search needs
 
 returns : tie.Need-returns
 returns c =
@@ -27,4 +21,4 @@ returns c =
     behind (a .out .now) (a .at) (43 ∷ []) (lineOf (a .number) (a .disk) (a .answer .now) (a .k)) (b .put-byte .ensures) (n .put-line .ensures)
 
 pub put-grant-spec : {M : Type 1} → statement M
-put-grant-spec = tie.close (tie.spec put-byte-requires put-line-requires same-length returns)
+put-grant-spec = tie.close (tie.spec (λ c κs. search needs) put-line-requires (λ c. search needs) returns)

@@ -66,9 +66,6 @@ abbrev μ-loop : tie.MeasureT-loop
 loop-holds : tie.Need-loop-holds Inv-loop μ-loop
 loop-holds c = let a = c .before .before .args in begun (a .out .now) (a .at) (a .number) (a .disk) (a .answer .now)
 
-is-grant-requires : tie.Need-is-grant-requires Inv-loop μ-loop
-is-grant-requires c κs = search needs
-
 put-grant-requires : tie.Need-put-grant-requires Inv-loop μ-loop
 put-grant-requires c κs =
     let g = c .before .before in
@@ -122,7 +119,7 @@ put-grants-spec =
     Inv-loop
     μ-loop
     loop-holds
-    is-grant-requires
+    (λ c κs. search needs)
     put-grant-requires
     add-k
     loop-less

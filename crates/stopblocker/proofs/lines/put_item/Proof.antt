@@ -27,35 +27,8 @@ item-is c =
       c .word-at3 .ensures,
     )
 
-mul-i : tie.Need-mul-i
-mul-i c = search needs
-
-word-at-requires : tie.Need-word-at-requires
-word-at-requires c κs = search needs
-
-add-word-at : tie.Need-add-word-at
-add-word-at c = search needs
-
-word-at-requires-2 : tie.Need-word-at-requires-2
-word-at-requires-2 c κs = search needs
-
-add-signed-at : tie.Need-add-signed-at
-add-signed-at c = search needs
-
-signed-at-requires : tie.Need-signed-at-requires
-signed-at-requires c κs = search needs
-
-add-word-at-2 : tie.Need-add-word-at-2
-add-word-at-2 c = search needs
-
-word-at-requires-3 : tie.Need-word-at-requires-3
-word-at-requires-3 c κs = search needs
-
 put-figures-requires : tie.Need-put-figures-requires
 put-figures-requires c κs = rw (item-is (c .before)) (c .before .before .before .before .before .before .before .pre .1 .1)
-
-same-length : tie.Need-same-length
-same-length c = search needs
 
 returns : tie.Need-returns
 returns c = rw (item-is (c .before .before .before .before)) at (c .before .before .put-figures .ensures)
@@ -64,14 +37,14 @@ pub put-item-spec : {M : Type 1} → statement M
 put-item-spec =
     tie.close
     (tie.spec
-    mul-i
-    word-at-requires
-    add-word-at
-    word-at-requires-2
-    add-signed-at
-    signed-at-requires
-    add-word-at-2
-    word-at-requires-3
+    (λ c. search needs)
+    (λ c κs. search needs)
+    (λ c. search needs)
+    (λ c κs. search needs)
+    (λ c. search needs)
+    (λ c κs. search needs)
+    (λ c. search needs)
+    (λ c κs. search needs)
     put-figures-requires
-    same-length
+    (λ c. search needs)
     returns)

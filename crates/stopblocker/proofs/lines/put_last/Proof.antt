@@ -17,9 +17,6 @@ put-byte-requires c κs =
     let s = b .before .before .before in
     omega (arith, b .put-next .ensures .0, length-append (next (s .args .n)) (10 ∷ []))
 
-same-length : tie.Need-same-length
-same-length c = search needs
-
 returns : tie.Need-returns
 returns c =
     let e = c .before .before in
@@ -28,4 +25,4 @@ returns c =
     behind (a .out .now) (a .at) (next (a .n)) (10 ∷ []) (b .put-next .ensures) (e .put-byte .ensures)
 
 pub put-last-spec : {M : Type 1} → statement M
-put-last-spec = tie.close (tie.spec put-next-requires put-byte-requires same-length returns)
+put-last-spec = tie.close (tie.spec put-next-requires put-byte-requires (λ c. search needs) returns)

@@ -40,9 +40,6 @@ put-item-requires c κs =
       ),
     )
 
-same-length : tie.Need-same-length
-same-length c = search needs
-
 returns : tie.Need-returns
 unfolding lineOf
 returns c =
@@ -56,4 +53,4 @@ returns c =
 pub put-line-spec : {M : Type 1} → statement M
 put-line-spec =
     tie.close
-    (tie.spec put-number-requires put-next-requires put-item-requires same-length returns)
+    (tie.spec put-number-requires put-next-requires put-item-requires (λ c. search needs) returns)

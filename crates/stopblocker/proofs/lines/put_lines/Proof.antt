@@ -37,9 +37,6 @@ put-grants-requires c κs =
       ),
     )
 
-same-length : tie.Need-same-length
-same-length c = search needs
-
 returns : tie.Need-returns
 unfolding linesOf
 returns c =
@@ -53,4 +50,4 @@ returns c =
     (p .0, (p .1, omega (arith, p .0, short k)))
 
 pub put-lines-spec : {M : Type 1} → statement M
-put-lines-spec = tie.close (tie.spec put-line-requires put-grants-requires same-length returns)
+put-lines-spec = tie.close (tie.spec put-line-requires put-grants-requires (λ c. search needs) returns)

@@ -8,17 +8,11 @@ use borrow.Author.Needs.{needs}
 use Rattle.stopblocker.proofs.lines.put_told.Statement.{statement}
 use Rattle.stopblocker.proofs.lines.put_told.Tie as tie
 
-put-byte-requires : tie.Need-put-byte-requires
-put-byte-requires c κs = search needs
-
 put-signed-requires : tie.Need-put-signed-requires
 put-signed-requires c κs =
     let b = c .before .before .before in
     let s = b .before .before .before in
     rw (toZ-ofZ (s .fits .z)) (omega (arith, b .put-byte .ensures .0))
-
-same-length : tie.Need-same-length
-same-length c = search needs
 
 returns : tie.Need-returns
 returns c =
@@ -29,4 +23,4 @@ returns c =
     behind (a .out .now) (a .at) (32 ∷ []) (signedText (a .z)) (b .put-byte .ensures) (rw (toZ-ofZ (s .fits .z)) at (n .put-signed .ensures))
 
 pub put-told-spec : {M : Type 1} → statement M
-put-told-spec = tie.close (tie.spec put-byte-requires put-signed-requires same-length returns)
+put-told-spec = tie.close (tie.spec (λ c κs. search needs) put-signed-requires (λ c. search needs) returns)

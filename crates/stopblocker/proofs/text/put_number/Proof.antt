@@ -9,18 +9,12 @@ use borrow.Author.Needs.{needs}
 use Rattle.stopblocker.proofs.text.put_number.Statement.{statement}
 use Rattle.stopblocker.proofs.text.put_number.Tie as tie
 
-places-requires : tie.Need-places-requires
-places-requires c κs = search needs
-
 add-end : tie.Need-add-end
 add-end c = omega (arith, length-decimal (c .before .before .args .n), c .places .ensures)
 
 put-digits-requires : tie.Need-put-digits-requires
 put-digits-requires c κs =
     (omega arith, omega (arith, length-decimal (c .before .before .before .args .n), c .before .places .ensures))
-
-same-length : tie.Need-same-length
-same-length c = search needs
 
 returns : tie.Need-returns
 unfolding decimal
@@ -35,4 +29,4 @@ returns c =
 
 pub put-number-spec : {M : Type 1} → statement M
 put-number-spec =
-    tie.close (tie.spec places-requires add-end put-digits-requires same-length returns)
+    tie.close (tie.spec (λ c κs. search needs) add-end put-digits-requires (λ c. search needs) returns)

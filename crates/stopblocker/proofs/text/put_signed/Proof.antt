@@ -24,20 +24,11 @@ above c =
     let e : c .before .size .result ≡ size (c .before .before .before .args .z) = rw (toZ-ofZ f) at (c .before .size .ensures .0) in
     signed-above (c .before .before .before .args .z) (rw (toZ-ofZ f) at (c .if1 .left)) ∙ ap decimal (sym e)
 
-size-requires : tie.Need-size-requires
-size-requires c κs = search needs
-
-cast-n : tie.Need-cast-n
-cast-n c = search needs
-
 put-byte-requires : tie.Need-put-byte-requires
 put-byte-requires c κs = omega (arith, ap length (below (c .before)))
 
 put-number-requires : tie.Need-put-number-requires
 put-number-requires c κs = omega (arith, ap length (below (c .before .before .before .before .before)), c .before .before .before .put-byte .ensures .0)
-
-same-length : tie.Need-same-length
-same-length c = search needs
 
 returns : tie.Need-returns
 returns c =
@@ -51,9 +42,6 @@ returns c =
 put-number-requires-2 : tie.Need-put-number-requires-2
 put-number-requires-2 c κs = omega (arith, ap length (above (c .before)))
 
-same-length-2 : tie.Need-same-length-2
-same-length-2 c = search needs
-
 returns-2 : tie.Need-returns-2
 returns-2 c = let n = c .before .before in rw (above (n .before .before)) (n .put-number2 .ensures)
 
@@ -61,12 +49,12 @@ pub put-signed-spec : {M : Type 1} → statement M
 put-signed-spec =
     tie.close
     (tie.spec
-    size-requires
-    cast-n
+    (λ c κs. search needs)
+    (λ c. search needs)
     put-byte-requires
     put-number-requires
-    same-length
+    (λ c. search needs)
     returns
     put-number-requires-2
-    same-length-2
+    (λ c. search needs)
     returns-2)
