@@ -1,6 +1,7 @@
 -- The vocabulary of the rules and statements: tests, sums and facts over a list.
 use Prim.Native.Nat.{ℕ, _+_}
 use mathlib.Core.Bool.{Bool, true, false, _&&_, _||_}
+use mathlib.Core.Logic.{_⊎_}
 use mathlib.Core.List.{List, [], _∷_}
 
 -- Every test of a list passes.
@@ -32,6 +33,11 @@ sumOf f (x ∷ xs) = f x + sumOf f xs
 abbrev pub All : {A : Type 0} → (A → Type 0) → List A → Type 0
 All P [] = Unit {0}
 All P (x ∷ xs) = P x × All P xs
+
+-- P holds of some element.
+abbrev pub Some : {A : Type 0} → (A → Type 0) → List A → Type 0
+Some P [] = ⊥
+Some P (x ∷ xs) = P x ⊎ Some P xs
 
 -- R holds of every two elements, the earlier one first.
 abbrev pub Pairs : {A : Type 0} → (A → A → Type 0) → List A → Type 0

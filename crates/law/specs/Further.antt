@@ -90,6 +90,11 @@ figures =
     (claims (second 399 (fresh (readUsed 0))) ⇒ grants (reading 1 (pos 0) 0)
     ∷ claims (second 400 (fresh (readUsed 0))) ⇒ waits 2
     ∷ [])
+    -- So is the state's, and the state is valid for 3,600 seconds: opened at 5,000, a fresh ReadState at 8,599 granted, at 8,600 waits.
+    ∷ opening 5_000 1_000 1_000
+    (claims (second 8_599 (fresh (readState 0))) ⇒ grants (reading 1 (pos 0) 0)
+    ∷ claims (second 8_600 (fresh (readState 0))) ⇒ waits 2
+    ∷ [])
     -- State is valid for 3,600 seconds.
     ∷ usual
     (claims (second 3_599 (fresh (readState 0))) ⇒ grants (reading 1 (pos 0) 0)

@@ -18,9 +18,10 @@ pub mod Situations
 pub mod LooksRight
 pub mod Further
 -- The rest are laws. They are proved, so nobody has to read a proof to know what is promised. The theorems of docs/PROMISES.md
--- stand in TableLaws, SoundTest, Refusals, GrantLaws, SoundKept, Safety, ReaderBound, GrantedAtOnce and Tickets; the other
+-- stand in TableLaws, SoundTest, Refusals, GrantLaws, SoundKept, Safety, ReaderBound, Stays, GrantedAtOnce and Tickets; the other
 -- files are lemmas for them.
 pub mod Lists
+pub mod SomeLaws
 pub mod Says
 pub mod FieldLaws
 pub mod Events
@@ -42,5 +43,6 @@ pub mod Near
 pub mod Covered
 pub mod Invariant
 pub mod ReaderBound
+pub mod Stays
 pub mod GrantedAtOnce
 pub mod Tickets

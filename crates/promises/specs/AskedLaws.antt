@@ -25,7 +25,7 @@ use Rattle.part.specs.Held.{held}
 use Rattle.desk.specs.Step.{Said, accepts}
 use Rattle.promises.specs.Histories.{BoardCall, BytesIn, stepBy, saidBy, History, after, lived}
 use Rattle.promises.specs.Asks.{asAsked, Claimed, takenBy, taken, claimedOn, claimed, AsAsked}
-use Rattle.promises.specs.SomeLaws.{some-left, some-right}
+use Rattle.law.specs.SomeLaws.{some-left, some-right}
 use Rattle.promises.specs.CaseLaws.{opened-held, served-held}
 use Rattle.promises.specs.LifeLaws.{Whole, whole-after}
 use Rattle.promises.specs.TurnLaws.{Turn, stays, opens, serves, turn}

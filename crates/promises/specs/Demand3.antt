@@ -1,28 +1,28 @@
 -- Demand 3 over bytes: a reading can rely on what it was told, and no reader pays for another's limit.
-use Prim.Native.Nat.{ℕ, _+_, _≤_, _<_}
-use mathlib.Core.Bool.{true, false, true≢false}
-use mathlib.Core.List.{List, [], _∷_}
-use mathlib.Core.Path.{_≡_, refl, sym, ap, _∙_}
+use Prim.Native.Nat.{ℕ, _≤_, _<_}
+use mathlib.Core.Bool.{Bool, true, false, true≢false}
+use mathlib.Core.List.{List, [], _∷_, map}
+use mathlib.Core.Path.{_≡_, refl, sym, ap, _∙_, subst}
 use borrow.Author.Tests.{eq-eqb, lt-leb}
 use lib.Dec.{eqb}
 use lib.IntN.{pos}
 use lib.ListN.{length}
 use Rattle.num.specs.Word.{wordAt}
 use Rattle.num.specs.Signed.{signedAt}
-use Rattle.num.specs.Metric.{dist}
 use Rattle.num.specs.Opened.{openAt}
 use Rattle.law.specs.declared.Claim.{Claim}
 use Rattle.law.specs.Base.{All, Pairs}
-use Rattle.law.specs.Lists.{all-say}
+use Rattle.law.specs.Lists.{all-say, all-left}
 use Rattle.law.specs.Types.{reads, Disk as LawDisk, Item, accepted}
-use Rattle.law.specs.Entries.{kindAt, kindOf}
+use Rattle.law.specs.Entries.{kindAt}
 use Rattle.law.specs.Readings.{present, carried}
 use Rattle.law.specs.Calls.{withGrant}
 use Rattle.law.specs.Sound.{claimsOn}
-use Rattle.law.specs.History.{claims, answered, Once}
+use Rattle.law.specs.History.{claims, answered, Once, EndsGrant, EndsWait, Lasting, StandsActive, StandsWaiting}
 use Rattle.law.specs.Conditions.{Reading, Free, readingItem}
 use Rattle.law.specs.GrantedAtOnce.{granted-at-once as law-granted-at-once}
 use Rattle.law.specs.ReaderBound.{Bounded, reader-bound, granted-once as law-granted-once}
+use Rattle.law.specs.Stays.{lasting-all, granted-stays, waiting-stays}
 use Rattle.law.specs.DiskType.{diskTable}
 use Rattle.rules.specs.Answers.{answerOf}
 use Rattle.answer.specs.declared.Answer.the-variants as A
@@ -34,50 +34,29 @@ use Rattle.desk.specs.Step.{ownOf, grantsOf, accepts, effect, serveOf, onBoard,
 use Rattle.promises.specs.Sentences.{WellFormed}
 use Rattle.promises.specs.RefusalLaws.{says-formed}
 use Rattle.promises.specs.Histories.{BoardCall, BytesIn, stepBy, saidBy, begun, lived}
-use Rattle.promises.specs.LifeLaws.{empty-shut, whole-begun, whole-lived, by-life, open-sound}
-use Rattle.promises.specs.Asks.{claimed, took, AsAsked, Stated, WasGranted}
-use Rattle.promises.specs.SomeLaws.{some-say}
+use Rattle.promises.specs.LifeLaws.{empty-shut, whole-begun, whole-lived, by-life, shut-silent, open-sound}
+use Rattle.promises.specs.Asks.{claimed, took, AsAsked, Stated, WasGranted, Relies}
+use Rattle.promises.specs.RelyLaws.{item-relies}
+use Rattle.law.specs.SomeLaws.{some-say}
 use Rattle.promises.specs.AskedLaws.{lived-asked}
 use Rattle.promises.specs.ToldLaws.{lived-granted}
-use Rattle.promises.specs.TakenLaws.{lived-rises}
+use Rattle.promises.specs.TakenLaws.{took-rises, claimed-rises}
 
--- ---- first half: a reading can rely on what it was told, as long as it is held
+-- ---- from its grant to its release
 
--- For a part p and an item i said on its disk: if i granted a reading, and that reading r is still active, its told sum and the
--- present sum of the same figures differ by at most its stated limit (`error`) less the error that those figures carried at
--- that grant. Written as a sum: difference plus carried error is within the limit.
-abbrev pub Relies : List ℕ → Item → Type 0
-Relies p i =
-    i .code ≡ 0 →
-    All
-    (λ r. r .ticket ≡ i .ticket → (m : ℕ) → kindOf diskTable r ≡ reads m →
-    dist (i .told) (present (held p .core .figures) m) + i .carried ≤ r .error)
-    (held p .core .active)
+-- After any calls from the empty board, refused ones and calls on other disks included: a claim that was granted, and that no later item
+-- released, is active, with what it was told; and a claim that waits, and that no later item granted or released, waits.
+pub grants-last : (ks : List BoardCall) → All BytesIn ks → (d : ℕ) → d < disks →
+    Lasting EndsGrant (StandsActive (held (partOf (lived begun ks .board) d) .core .active)) (lived begun ks .past d)
+grants-last ks bs d h =
+    by-life ks bs d h (λ e past. Lasting EndsGrant (StandsActive (e .core .active)) past) (λ o e. tt)
+    (λ l. granted-stays diskTable (l .now) (l .limit0) (l .limit1) (l .calls))
 
--- After any calls from the empty board, refused ones and calls on other disks included, this holds for every item said on disk d.
-pub told-bound : (ks : List BoardCall) → All BytesIn ks → (d : ℕ) → d < disks →
-    All (Relies (partOf (lived begun ks .board) d)) (lived begun ks .past d)
-told-bound ks bs d h =
-    by-life ks bs d h (λ e past. All (Bounded diskTable (e .core)) past) (λ o e. tt)
-    (λ l. reader-bound diskTable (l .now) (l .limit0) (l .limit1) (l .calls))
-
--- Disk and ticket identify a reading for all time: no ticket of a disk is granted twice.
-pub granted-once : (ks : List BoardCall) → All BytesIn ks → (d : ℕ) → d < disks → Pairs Once (lived begun ks .past d)
-granted-once ks bs d h =
-    by-life ks bs d h (λ e past. Pairs Once past) (λ o e. tt) (λ l. law-granted-once diskTable (l .now) (l .limit0) (l .limit1) (l .calls))
-
--- All claims take different tickets: of any two calls whose own answer on a disk grants a claim or
--- lets it wait, the later one took the higher ticket.
-pub tickets-once : (ks : List BoardCall) → All BytesIn ks → (d : ℕ) → d < disks → Pairs _<_ (took begun ks d)
-tickets-once ks bs d h = lived-rises begun ks bs whole-begun d h .apart
-
--- Every active claim was granted by an item that was said, with the told sum that stands on
--- the board: `told-bound` leaves no reading out.
-pub readings-told : (ks : List BoardCall) → All BytesIn ks → (d : ℕ) → d < disks → openAt (lived begun ks .board) d ≡ true →
-    All (WasGranted (lived begun ks .past d)) (held (partOf (lived begun ks .board) d) .core .active)
-readings-told ks bs d h on =
-    by-life ks bs d h (λ e past. All (WasGranted past) (e .core .active)) (λ off e. absurd (true≢false (sym on ∙ off)))
-    (λ l. lived-granted (l .now) (l .limit0) (l .limit1) (l .calls))
+pub waits-last : (ks : List BoardCall) → All BytesIn ks → (d : ℕ) → d < disks →
+    Lasting EndsWait (StandsWaiting (held (partOf (lived begun ks .board) d) .waiting)) (lived begun ks .past d)
+waits-last ks bs d h =
+    by-life ks bs d h (λ e past. Lasting EndsWait (StandsWaiting (e .waiting)) past) (λ o e. tt)
+    (λ l. waiting-stays diskTable (l .now) (l .limit0) (l .limit1) (l .calls))
 
 -- ---- the limit that it stated
 
@@ -88,7 +67,52 @@ pub claims-as-asked : (ks : List BoardCall) → All BytesIn ks → (d : ℕ) →
 claims-as-asked ks bs =
     lived-asked begun ks bs whole-begun (λ d. []) (λ d l o. absurd (true≢false (sym o ∙ empty-shut d l)))
 
--- So the limit in `told-bound` is the one that the reading's own record states in bytes 20–23.
+-- ---- first half: a reading can rely on what it was told, from its grant to its release
+
+-- After any calls from the empty board, refused ones and calls on other disks included: for every grant that was said on disk d, and that
+-- no later item released, the told sum and the present sum of the same figures differ by at most the limit that its own record states
+-- less the error that those figures carried at that grant (`Relies` in Asks; `claims-rise`: no other record took its ticket).
+pub told-bound : (ks : List BoardCall) → All BytesIn ks → (d : ℕ) → d < disks →
+    Lasting EndsGrant (Relies (partOf (lived begun ks .board) d) (claimed begun ks d)) (lived begun ks .past d)
+told-bound ks bs d h = go (openAt (lived begun ks .board) d) refl
+  where
+    p : List ℕ
+    p = partOf (lived begun ks .board) d
+
+    go : (v : Bool) → openAt (lived begun ks .board) d ≡ v → Lasting EndsGrant (Relies p (claimed begun ks d)) (lived begun ks .past d)
+    go false o = subst (Lasting EndsGrant (Relies p (claimed begun ks d))) (sym (shut-silent ks bs d h o)) tt
+    go true o =
+        lasting-all EndsGrant
+        (λ i.
+        item-relies p (claimed begun ks d) i
+        (all-left (AsAsked (claimed begun ks d)) (held p .core .active) (held p .waiting) (claims-as-asked ks bs d h o)))
+        (lived begun ks .past d) (grants-last ks bs d h)
+        (by-life ks bs d h (λ e past. All (Bounded diskTable (e .core)) past) (λ x e. tt)
+        (λ l. reader-bound diskTable (l .now) (l .limit0) (l .limit1) (l .calls)))
+
+-- Disk and ticket identify a reading for all time: no ticket of a disk is granted twice.
+pub granted-once : (ks : List BoardCall) → All BytesIn ks → (d : ℕ) → d < disks → Pairs Once (lived begun ks .past d)
+granted-once ks bs d h =
+    by-life ks bs d h (λ e past. Pairs Once past) (λ o e. tt) (λ l. law-granted-once diskTable (l .now) (l .limit0) (l .limit1) (l .calls))
+
+-- All claims take different tickets: of any two calls whose own answer on a disk grants a claim or
+-- lets it wait, the later one took the higher ticket.
+pub tickets-once : (ks : List BoardCall) → All BytesIn ks → (d : ℕ) → d < disks → Pairs _<_ (took begun ks d)
+tickets-once ks bs d h = took-rises begun ks bs whole-begun d h .apart
+
+-- So do the claims that were made, by their records: the record with a ticket is the only one with it.
+pub claims-rise : (ks : List BoardCall) → All BytesIn ks → (d : ℕ) → d < disks → Pairs _<_ (map (λ x. x .ticket) (claimed begun ks d))
+claims-rise ks bs d h = claimed-rises begun ks bs whole-begun d h .apart
+
+-- Every active claim was granted by an item that was said, with the told sum that stands on
+-- the board: no active claim is left out.
+pub readings-told : (ks : List BoardCall) → All BytesIn ks → (d : ℕ) → d < disks → openAt (lived begun ks .board) d ≡ true →
+    All (WasGranted (lived begun ks .past d)) (held (partOf (lived begun ks .board) d) .core .active)
+readings-told ks bs d h on =
+    by-life ks bs d h (λ e past. All (WasGranted past) (e .core .active)) (λ off e. absurd (true≢false (sym on ∙ off)))
+    (λ l. lived-granted (l .now) (l .limit0) (l .limit1) (l .calls))
+
+-- So the own error or stated limit of every claim on the board is the one that its own record states in bytes 20–23.
 pub limit-stated : (ks : List BoardCall) → All BytesIn ks → (d : ℕ) → d < disks → openAt (lived begun ks .board) d ≡ true →
     All (Stated (claimed begun ks d)) (claimsOn (held (partOf (lived begun ks .board) d)))
 unfolding askedIn

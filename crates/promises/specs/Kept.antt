@@ -6,27 +6,28 @@ use mathlib.Core.List.{List}
 use mathlib.Core.Logic.{_≢_}
 use mathlib.Core.Path.{_≡_, refl, sym, ap, subst, _∙_}
 use native.Mathlib.Omega.{arith}
-use borrow.Author.Tests.{leb-false}
-use lib.Dec.{leb, eqb}
+use borrow.Author.Tests.{eqb-true}
+use lib.Dec.{eqb}
 use lib.ListN.{length, getD}
 use Rattle.num.specs.Word.{Bytes}
 use Rattle.num.specs.Opened.{openAt, setOpen}
-use Rattle.num.specs.OpenedLaws.{length-set-open, bytes-set-open, byte-set-open, open-set-other, open-same}
-use Rattle.law.specs.Types.{Disk as LawDisk, Outcome, refused, accepted}
-use Rattle.law.specs.Calls.{opened, openDisk}
+use Rattle.num.specs.OpenedLaws.{length-set-open, bytes-set-open, byte-set-open, open-set-same, open-set-other, open-same}
+use Rattle.law.specs.Types.{Disk as LawDisk}
+use Rattle.law.specs.Calls.{opened}
 use Rattle.law.specs.Sound.{Sound}
 use Rattle.law.specs.DiskType.{diskTable}
-use Rattle.answer.specs.declared.Refusal.the-variants as R
+use Rattle.rules.specs.Answers.{answerOf}
 use Rattle.answer.specs.Answers.{codeOf, answerBytes, answerSize}
 use Rattle.answer.specs.AnswerLaws.{number-range}
-use Rattle.desk.specs.Record.{kindByte, wellFormed, diskNumber, nowOf, callOf, usedLimit, promisedLimit}
+use Rattle.desk.specs.Record.{diskNumber, nowOf, usedLimit, promisedLimit}
 use Rattle.desk.specs.Board.{disks, boardBytes, partOf, withPart}
 use Rattle.desk.specs.BoardLaws.{length-with, bytes-with, part-same, part-other, part-open, open-with, byte-before}
 use Rattle.part.specs.Held.{held, partFor}
-use Rattle.desk.specs.Step.{Said, ownOf, grantsOf, Effect, effect, refusing, serveOf, onPart, opening, onDisk, onBoard, effectOf, written, stepped, stepOf}
+use Rattle.desk.specs.Step.{Said, ownOf, grantsOf, Effect, effect, effectOf, Stepped, written, stepped, stepOf}
 use Rattle.part.specs.PartLaws.{held-part, part-sound, bytes-part-for}
 use Rattle.promises.specs.Sentences.{SoundPart}
 use Rattle.promises.specs.RefusalLaws.{says-sound-part, by-lengths}
+use Rattle.promises.specs.OwnLaws.{SameDisk, said-same, own-same}
 use Rattle.promises.specs.CaseLaws.{Case, isRefused, isOpened, isServed, effect-case, now-fits, opened-sound, opened-now, opened-size, served-sound, served-now, served-size}
 
 -- ---- no accepted call leaves an unsound part
@@ -121,6 +122,31 @@ module _ (b r a : List ℕ) (bs : Bytes r) where
       open-set-other (withPart b (diskNumber r) p) (diskNumber r) known (omega (arith, length-with b (diskNumber r) size known p full)) e n
       ∙ same)
 
+  -- The own bit: an accepted open sets it, every other call leaves it.
+  pub own-bit : diskNumber r < disks →
+      (stepOf b r a .code ≡ 3 → openAt (stepOf b r a .bytes) (diskNumber r) ≡ true) ×
+      ((stepOf b r a .code ≡ 3 → ⊥) → openAt (stepOf b r a .bytes) (diskNumber r) ≡ openAt b (diskNumber r))
+  unfolding answerOf
+  own-bit l = by-lengths b r a Bit (λ n m. told n (effect-case b r n)) ((λ e. absurd (omega arith)), λ x. refl)
+    where
+      Bit : Stepped → Type 0
+      Bit s = (s .code ≡ 3 → openAt (s .bytes) (diskNumber r) ≡ true) × ((s .code ≡ 3 → ⊥) → openAt (s .bytes) (diskNumber r) ≡ openAt b (diskNumber r))
+
+      told : length b ≡ boardBytes → Case b r → Bit (written (effectOf b r))
+      told n (isRefused x t) =
+          subst (λ (y : Effect). Bit (written y)) (sym t) ((λ e. absurd (omega (arith, e, number-range x .0))), λ e. refl)
+      told n (isOpened w known o f0 f1 t) =
+          let p : List ℕ = partFor (opened (nowOf r) (usedLimit r) (promisedLimit r)) in
+          subst (λ (y : Effect). Bit (written y)) (sym t) (
+            (λ e.
+                open-set-same (withPart b (diskNumber r) p) (diskNumber r) known
+                (omega (arith, length-with b (diskNumber r) n known p (opened-size r)))),
+            λ e. absurd (e refl),
+          )
+      told n (isServed w known o s f items q t) =
+          let same = open-with b (diskNumber r) n known (partFor f) (served-size (partOf b (diskNumber r)) r bs w s f items q) (diskNumber r) known in
+          subst (λ (y : Effect). Bit (written y)) (sym t) ((λ e. same ∙ o), λ e. same)
+
   -- Bytes 8 to 63 of the head stay.
   pub head-stays : (k : ℕ) → 8 ≤ k → k < 64 → getD (stepOf b r a .bytes) k 0 ≡ getD b k 0
   head-stays k l u =
@@ -144,46 +170,13 @@ module _ (b r a : List ℕ) (bs : Bytes r) where
 -- ---- a call reads nothing of the board but its own disk's bit and part
 
 module _ (b c r a : List ℕ) (same : length b ≡ length c) where
-  opening-said : (o : Outcome) → opening b (diskNumber r) o .said ≡ opening c (diskNumber r) o .said
-  opening-said (refused n) = refl
-  opening-said (accepted d items) = refl
-
-  disk-said : openAt b (diskNumber r) ≡ openAt c (diskNumber r) → partOf b (diskNumber r) ≡ partOf c (diskNumber r) →
-      onDisk b r (diskNumber r) .said ≡ onDisk c r (diskNumber r) .said
-  disk-said o p = rw (o, p) (go (eqb (kindByte r) 1) (openAt c (diskNumber r)) (serveOf (partOf c (diskNumber r)) (callOf r)))
-    where
-      outcome : Outcome
-      outcome = openDisk (nowOf r) (usedLimit r) (promisedLimit r)
-
-      go : (opens isOpen : Bool) (t : Effect) →
-          cond opens (cond isOpen (refusing b R.Open) (opening b (diskNumber r) outcome))
-          (cond isOpen (onPart b (diskNumber r) t) (refusing b R.Closed)) .said
-          ≡ cond opens (cond isOpen (refusing c R.Open) (opening c (diskNumber r) outcome))
-          (cond isOpen (onPart c (diskNumber r) t) (refusing c R.Closed)) .said
-      go true true t = refl
-      go true false t = opening-said outcome
-      go false true t = refl
-      go false false t = refl
-
-  said-same : (diskNumber r < disks → openAt b (diskNumber r) ≡ openAt c (diskNumber r)) → (diskNumber r < disks → partOf b (diskNumber r) ≡ partOf c (diskNumber r)) →
-      effectOf b r .said ≡ effectOf c r .said
-  unfolding effectOf onBoard
-  said-same o p = go (wellFormed r) (leb disks (diskNumber r)) refl
-    where
-      go : (formed far : Bool) → leb disks (diskNumber r) ≡ far →
-          cond formed (cond far (refusing b R.Disk) (onDisk b r (diskNumber r))) (refusing b R.Record) .said
-          ≡ cond formed (cond far (refusing c R.Disk) (onDisk c r (diskNumber r))) (refusing c R.Record) .said
-      go false far e = refl
-      go true true e = refl
-      go true false e = let known = leb-false disks (diskNumber r) e in disk-said (o known) (p known)
-
   -- If two boards agree in length and in the disk's bit and part, the call returns and answers the same.
   pub reads-own : (diskNumber r < disks → openAt b (diskNumber r) ≡ openAt c (diskNumber r)) → (diskNumber r < disks → partOf b (diskNumber r) ≡ partOf c (diskNumber r)) →
       (stepOf b r a .code ≡ stepOf c r a .code) × (stepOf b r a .answer ≡ stepOf c r a .answer)
   unfolding stepOf
   reads-own o p =
       rw same
-      (go (eqb (length c) boardBytes && eqb (length a) answerSize) (effectOf b r .said) (effectOf c r .said) (said-same o p))
+      (go (eqb (length c) boardBytes && eqb (length a) answerSize) (effectOf b r .said) (effectOf c r .said) (said-same b c r o p))
     where
       go : (v : Bool) (x y : Said) → x ≡ y →
           (cond v (written (effect (effectOf b r .bytes) x)) (stepped 9 b a) .code ≡ cond v (written (effect (effectOf c r .bytes) y)) (stepped 9 c a) .code)
@@ -191,6 +184,19 @@ module _ (b c r a : List ℕ) (same : length b ≡ length c) where
           ≡ cond v (written (effect (effectOf c r .bytes) y)) (stepped 9 c a) .answer)
       go true x y e = (ap (λ (z : Said). codeOf (ownOf z)) e, ap (λ (z : Said). answerBytes (ownOf z) (grantsOf z)) e)
       go false x y e = (refl, refl)
+
+  -- And it leaves the disk the same: its part and its bit.
+  pub leaves-own : Bytes r → diskNumber r < disks → openAt b (diskNumber r) ≡ openAt c (diskNumber r) → partOf b (diskNumber r) ≡ partOf c (diskNumber r) →
+      (partOf (stepOf b r a .bytes) (diskNumber r) ≡ partOf (stepOf c r a .bytes) (diskNumber r))
+      × (openAt (stepOf b r a .bytes) (diskNumber r) ≡ openAt (stepOf c r a .bytes) (diskNumber r))
+  unfolding stepOf
+  leaves-own bs known o p = rw same (go (eqb (length c) boardBytes) (eqb (length a) answerSize) refl)
+    where
+      go : (v w : Bool) → eqb (length c) boardBytes ≡ v →
+          SameDisk (diskNumber r) (cond (v && w) (written (effectOf b r)) (stepped 9 b a) .bytes) (cond (v && w) (written (effectOf c r)) (stepped 9 c a) .bytes)
+      go false w e = (p, o)
+      go true false e = (p, o)
+      go true true e = let m = eqb-true (length c) boardBytes e in own-same b c r bs (same ∙ m) m known o p
 
   -- So bytes 8 to 63 of the head are never read.
   pub head-unread : ((k : ℕ) → k < 8 → getD b k 0 ≡ getD c k 0) → ((d : ℕ) → d < disks → partOf b d ≡ partOf c d) →

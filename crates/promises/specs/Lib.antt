@@ -13,6 +13,8 @@
 --     P ↔ Q                 P exactly if Q
 --     λ i. P                the property P of an i
 --     All P xs              P holds of everything in the list xs
+--     Some P xs             P holds of something in the list xs
+--     Lasting Ends P xs     P holds of every item of xs that no later item of xs has ended
 --
 -- So `(b r a : List ℕ) → 9 ≤ stepOf b r a .code → stepOf b r a .bytes ≡ b` (Demand1) says: for any board, record and answer buffer,
 -- if the code of the call is 9 or more, then the board after it is the board before it.
@@ -28,7 +30,6 @@ pub mod Lived
 pub mod Counts
 pub mod Unique
 pub mod Reading
-pub mod SomeLaws
 pub mod RefusalLaws
 pub mod AcceptLaws
 pub mod CaseLaws
@@ -37,3 +38,5 @@ pub mod LifeLaws
 pub mod AskedLaws
 pub mod ToldLaws
 pub mod TakenLaws
+pub mod RelyLaws
+pub mod OwnLaws

@@ -178,6 +178,14 @@ module _ (ks : List BoardCall) (bs : All BytesIn ks) (d : ℕ) (known : d < disk
       go (shut o e) = rw e (none o (held (partOf (lived begun ks .board) d)))
       go (lives o l p e) = rw (e, life-disk l p) (life l)
 
+  -- Nothing was said on a shut disk.
+  pub shut-silent : openAt (lived begun ks .board) d ≡ false → lived begun ks .past d ≡ []
+  shut-silent off = go (whole-lived begun ks bs whole-begun .each d known)
+    where
+      go : {past : List Item} → Stands (lived begun ks .board) past d → past ≡ []
+      go (shut o e) = e
+      go (lives o l p e) = absurd (true≢false (sym o ∙ off))
+
   pub open-sound : openAt (lived begun ks .board) d ≡ true → soundPart (partOf (lived begun ks .board) d) ≡ true
   open-sound on = go (whole-lived begun ks bs whole-begun .each d known)
     where

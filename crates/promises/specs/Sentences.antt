@@ -10,7 +10,7 @@ use lib.ListN.{length}
 use Rattle.num.specs.Opened.{openAt}
 use Rattle.law.specs.declared.Claim.{Claim}
 use Rattle.law.specs.Base.{All}
-use Rattle.law.specs.Types.{mostFlag, Core, Disk as LawDisk}
+use Rattle.law.specs.Types.{Core, Disk as LawDisk}
 use Rattle.law.specs.Granting.{preconditions, lockStep, bars}
 use Rattle.law.specs.Calls.{at, asked}
 use Rattle.law.specs.Sentences.{Sentence, openSentences, sentencesOf}
@@ -37,7 +37,7 @@ pub record WellFormed (r : List ℕ) : Type 0 where
   pub size : length r ≡ 24
   pub mark : (byteAt r 0 ≡ 0x52) × (byteAt r 1 ≡ 0x42)
   pub kind : KindFits r
-  pub flag : byteAt r 6 ≤ mostFlag
+  pub flag : byteAt r 6 ≤ 1
   pub zero : byteAt r 7 ≡ 0
 
 -- ---- 14: a sound part

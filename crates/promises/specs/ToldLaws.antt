@@ -14,7 +14,7 @@ use Rattle.law.specs.Events.{After, claim-after, release-after, pass-keeps, liv
 use Rattle.law.specs.History.{Call, claims, releases, History, begun, answered, lived}
 use Rattle.law.specs.DiskType.{diskTable}
 use Rattle.promises.specs.Asks.{WasGranted}
-use Rattle.promises.specs.SomeLaws.{some-left, some-right}
+use Rattle.law.specs.SomeLaws.{some-left, some-right}
 
 -- This stays so when more is said.
 more-granted : (past new : List Item) (ws : List Claim) → All (WasGranted past) ws → All (WasGranted (past ++ new)) ws
