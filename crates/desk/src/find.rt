@@ -11,7 +11,7 @@ use part::read::waitings_at;
 use slots::find_in;
 
 // The place of a ticket among the active claims, and among the waiting ones; how many these are where none has it.
-pub fn find_active(s: &[u8], ticket: u32) -> usize
+pub(crate) fn find_active(s: &[u8], ticket: u32) -> usize
     requires { ⌜ HoldsDisk (now s) ⌝ }
     ensures { λ r. ⌜ r ≡ placeOf ticket (held (now (s .entry)) .core .active) ⌝ }
 {
@@ -19,7 +19,7 @@ pub fn find_active(s: &[u8], ticket: u32) -> usize
     find_in(&s[ACTIVE_AT..WAITING_AT], n, ticket)
 }
 
-pub fn find_waiting(s: &[u8], ticket: u32) -> usize
+pub(crate) fn find_waiting(s: &[u8], ticket: u32) -> usize
     requires { ⌜ HoldsDisk (now s) ⌝ }
     ensures { λ r. ⌜ r ≡ placeOf ticket (held (now (s .entry)) .waiting) ⌝ }
 {

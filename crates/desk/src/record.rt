@@ -53,7 +53,7 @@ pub const CLAIM: u8 = 2;
 const RELEASE: u8 = 3;
 
 // Whether a record is well formed: no refusal 10.
-pub fn well_formed(r: &[u8]) -> bool
+pub(crate) fn well_formed(r: &[u8]) -> bool
     ensures { λ ok. ⌜ ok ≡ wellFormed (now (r .entry)) ⌝ }
 {
     if r.len() != RECORD_BYTES {
@@ -98,7 +98,7 @@ fn kind_fits(r: &[u8], kind: u8) -> bool
 }
 
 // The claim that a record asks for, with the ticket that it would take.
-pub fn asked_in(r: &[u8], ticket: u32) -> Claim
+pub(crate) fn asked_in(r: &[u8], ticket: u32) -> Claim
     requires { ⌜ length (now r) ≡ 24 ⌝ }
     ensures { λ c. ⌜ c ≡ claimOf (askedIn (now (r .entry))) ticket ⌝ }
 {

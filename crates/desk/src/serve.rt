@@ -42,7 +42,7 @@ use rules::totals::Totals;
 use sound::is_sound;
 
 // Refuses: the number in the first item, all else zero.
-pub fn refuse(answer: &mut [u8], r: Refusal) -> u32
+pub(crate) fn refuse(answer: &mut [u8], r: Refusal) -> u32
     requires { ⌜ length (now answer) ≡ 144 ⌝ }
     ensures { λ n. ⌜ n ≡ numberOf r ⌝ }
     ensures { λ _. ⌜ now (answer .exit) ≡ answerBytes (Refused r) [] ⌝ }
@@ -104,7 +104,7 @@ fn serve_release(part: &mut [u8], second: u32, ticket: u32, answer: &mut [u8]) -
 }
 
 // A claim or a release on the lent part of an open disk.
-pub fn serve(part: &mut [u8], r: &[u8], answer: &mut [u8]) -> u32
+pub(crate) fn serve(part: &mut [u8], r: &[u8], answer: &mut [u8]) -> u32
     requires { ⌜ length (now part) ≡ 768 ⌝ }
     requires { ⌜ length (now r) ≡ 24 ⌝ }
     requires { ⌜ length (now answer) ≡ 144 ⌝ }

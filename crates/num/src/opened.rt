@@ -35,7 +35,7 @@ pub fn open_count(s: &[u8]) -> u32
 }
 
 // The eight bytes as one number.
-pub fn open_word(s: &[u8]) -> u64
+pub(crate) fn open_word(s: &[u8]) -> u64
     requires { ⌜ 8 ≤ length (now s) ⌝ }
     ensures { λ r. ⌜ r ≡ openWord (now (s .entry)) ⌝ }
 {

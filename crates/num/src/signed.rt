@@ -11,7 +11,7 @@ use crate::word::put_word;
 use crate::word::word_at;
 
 // The figure that a word stands for.
-pub fn to_signed(x: u32) -> i32
+pub(crate) fn to_signed(x: u32) -> i32
     ensures { λ r. ⌜ r ≡ signedOf x ⌝ }
 {
     if x < 2147483648 {
@@ -65,7 +65,7 @@ pub fn gap(a: i32, b: i32) -> u64
 }
 
 // The size of a 64-bit figure; the least one is excluded, since its negation would not fit.
-pub fn wide_size(z: i64) -> u64
+pub(crate) fn wide_size(z: i64) -> u64
     requires { ⌜ size z < 2 ^ 63 ⌝ }
     ensures { λ r. ⌜ r ≡ size z ⌝ }
 {

@@ -51,7 +51,7 @@ fn head_words(d: Disk) -> [u32; 16]
 }
 
 // Puts claims into their slots, one behind the other.
-pub fn put_claims(s: &mut [u8], at: usize, cs: [Claim; 8])
+pub(crate) fn put_claims(s: &mut [u8], at: usize, cs: [Claim; 8])
     requires { ⌜ at + 352 ≤ length (now s) ⌝ }
     ensures { λ _. ⌜ now (s .exit) ≡ splice (now (s .entry)) at (inSlots cs) ⌝ }
 {

@@ -27,6 +27,7 @@ pub mod Demand1
 pub mod Demand3
 pub mod Kept
 pub mod Lived
+pub mod Above
 pub mod Counts
 pub mod Unique
 pub mod Reading
@@ -39,4 +40,5 @@ pub mod AskedLaws
 pub mod ToldLaws
 pub mod TakenLaws
 pub mod RelyLaws
+pub mod AboveLaws
 pub mod OwnLaws

@@ -35,7 +35,7 @@ fn value_fits(m: u32, value: i32) -> bool
 }
 
 // 17: the fields of a claim at second now.
-pub fn fields_fit(c: Claim, now: u32) -> bool
+pub(crate) fn fields_fit(c: Claim, now: u32) -> bool
     ensures { λ r. ⌜ r ≡ allTrue (fieldTests now (kindOf diskTable c) c) ⌝ }
 {
     if MOST_ERROR < c.error {
@@ -57,7 +57,7 @@ pub fn fields_fit(c: Claim, now: u32) -> bool
 }
 
 // 18: a write's own error is within its attribute's limit.
-pub fn own_fits(m: u32, error: u32, used: Attr, promised: Attr, state: Attr) -> bool
+pub(crate) fn own_fits(m: u32, error: u32, used: Attr, promised: Attr, state: Attr) -> bool
     ensures { λ r. ⌜ r ≡ ownFits (figuresOf used promised state) (kindAt diskTable m) error ⌝ }
 {
     if is_reading(m) {

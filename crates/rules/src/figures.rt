@@ -45,7 +45,7 @@ fn signed_if_read(read: bool, x: i32) -> i64
 }
 
 // The error that the figures carry for a method: the sum of the amounts that it reads.
-pub fn carried(m: u32, used: Attr, promised: Attr, state: Attr) -> u64
+pub(crate) fn carried(m: u32, used: Attr, promised: Attr, state: Attr) -> u64
     ensures { λ r. ⌜ r ≡ carriedBy (figuresOf used promised state) (kindAt diskTable m) ⌝ }
     ensures { λ r. ⌜ r ≤ 12884901885 ⌝ }
 {
@@ -67,7 +67,7 @@ pub fn told(m: u32, used: Attr, promised: Attr, state: Attr) -> i64
 }
 
 // The attribute that a write writes; the state for a reading, which writes none.
-pub fn written(m: u32, used: Attr, promised: Attr, state: Attr) -> Attr
+pub(crate) fn written(m: u32, used: Attr, promised: Attr, state: Attr) -> Attr
     ensures { λ r. ⌜ r ≡ writtenBy (figuresOf used promised state) (kindAt diskTable m) ⌝ }
 {
     let mask = writes(m);
@@ -81,7 +81,7 @@ pub fn written(m: u32, used: Attr, promised: Attr, state: Attr) -> Attr
 }
 
 // The gap that a write of a value leaves to the present figures: |z − value| for a set, |d| for an add.
-pub fn gap_of(m: u32, value: i32, used: Attr, promised: Attr, state: Attr) -> u64
+pub(crate) fn gap_of(m: u32, value: i32, used: Attr, promised: Attr, state: Attr) -> u64
     ensures { λ r. ⌜ r ≡ gapBy (figuresOf used promised state) (kindAt diskTable m) value ⌝ }
     ensures { λ r. ⌜ r ≤ 4294967295 ⌝ }
 {
@@ -134,7 +134,7 @@ fn stale(read: bool, stamp: u32, valid: u64, now: u32) -> bool
 }
 
 // Precondition (a): for each attribute read, stamp + validity > now.
-pub fn fresh(m: u32, flag: u32, now: u32, used: Attr, promised: Attr, state: Attr) -> bool
+pub(crate) fn fresh(m: u32, flag: u32, now: u32, used: Attr, promised: Attr, state: Attr) -> bool
     ensures { λ r. ⌜ r ≡ freshAt (figuresOf used promised state) now (kindAt diskTable m) flag ⌝ }
 {
     if flag == 0 {

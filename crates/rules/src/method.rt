@@ -100,7 +100,7 @@ fn doing(sets: u8, adds: u8, reads: u8) -> Masks
 
 // The masks of a method. An unknown method does nothing. What depends on the masks alone is computed by the compiler, which makes a
 // table of it.
-pub fn masks_of(m: u32) -> Masks
+pub(crate) fn masks_of(m: u32) -> Masks
     ensures { λ r. ⌜ r ≡ masksOf m ⌝ }
 {
     match m {
@@ -128,7 +128,7 @@ pub fn adds(m: u32) -> u8
     masks_of(m).adds
 }
 
-pub fn reads(m: u32) -> u8
+pub(crate) fn reads(m: u32) -> u8
     ensures { λ r. ⌜ r ≡ readMask m ⌝ }
 {
     masks_of(m).reads
@@ -148,7 +148,7 @@ pub fn is_reading(m: u32) -> bool
 }
 
 // Whether a method adds.
-pub fn is_add(m: u32) -> bool
+pub(crate) fn is_add(m: u32) -> bool
     ensures { λ r. ⌜ r ≡ isAdd (kindAt diskTable m) ⌝ }
 {
     m == ADD_PROMISED

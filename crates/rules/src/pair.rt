@@ -15,7 +15,7 @@ use num::signed::gap;
 use num::signed::size;
 
 // |d| of a claim that adds, 0 of any other.
-pub fn add_part(x: Claim) -> u64
+pub(crate) fn add_part(x: Claim) -> u64
     ensures { λ r. ⌜ r ≡ addOf x ⌝ }
     ensures { λ r. ⌜ r ≤ 2147483648 ⌝ }
 {

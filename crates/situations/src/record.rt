@@ -14,7 +14,7 @@ pub const DISK: u8 = 3;
 const CLOSED_DISK: u8 = 4;
 
 // The record of a row.
-pub fn record_of(q: [u32; 8]) -> [u8; 24]
+pub(crate) fn record_of(q: [u32; 8]) -> [u8; 24]
     ensures { λ r. ⌜ r ≡ recordOf q ⌝ }
 {
     let kind = q[0];

@@ -24,7 +24,7 @@ use rules::method::is_reading;
 use rules::method::sets_state;
 
 // How large the fields of a claim may be on the disk of a part, rows by method.
-pub fn most_in(s: &[u8]) -> [u32; 35]
+pub(crate) fn most_in(s: &[u8]) -> [u32; 35]
     requires { ⌜ HoldsDisk (now s) ⌝ }
     ensures { λ r. ⌜ r ≡ mostIn (now (s .entry)) ⌝ }
 {
@@ -83,7 +83,7 @@ fn alone(c: Claim, next: u32, most: &[u32]) -> bool
 }
 
 // An active claim: a reading's told is in range and its amount ≤ its limit; a write has neither.
-pub fn active_fits(c: Claim, next: u32, most: &[u32]) -> bool
+pub(crate) fn active_fits(c: Claim, next: u32, most: &[u32]) -> bool
     requires { ⌜ Bounds (now most) ⌝ }
     ensures { λ r. ⌜ r ≡ activeBy (now (most .entry)) next c ⌝ }
 {
@@ -98,7 +98,7 @@ pub fn active_fits(c: Claim, next: u32, most: &[u32]) -> bool
 }
 
 // A waiting claim: told and amount are 0.
-pub fn waiting_fits(c: Claim, next: u32, most: &[u32]) -> bool
+pub(crate) fn waiting_fits(c: Claim, next: u32, most: &[u32]) -> bool
     requires { ⌜ Bounds (now most) ⌝ }
     ensures { λ r. ⌜ r ≡ waitingBy (now (most .entry)) next c ⌝ }
 {

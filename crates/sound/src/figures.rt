@@ -21,7 +21,7 @@ use part::read::used_at;
 const MOST_NEXT: u32 = LAST_TICKET + 1;
 
 // The figures of a part.
-pub fn figures_hold(s: &[u8]) -> bool
+pub(crate) fn figures_hold(s: &[u8]) -> bool
     requires { ⌜ HoldsDisk (now s) ⌝ }
     ensures { λ r. ⌜ r ≡ figuresOn (held (now (s .entry))) ⌝ }
 {

@@ -23,14 +23,14 @@ pub struct Marks {
 }
 
 // The marks of no tickets.
-pub fn no_marks() -> Marks
+pub(crate) fn no_marks() -> Marks
     ensures { λ r. ⌜ r ≡ noMarks ⌝ }
 {
     Marks { met: 0, again: 0 }
 }
 
 // The marks with the ticket of one claim more.
-pub fn with_ticket(m: Marks, c: Claim) -> Marks
+pub(crate) fn with_ticket(m: Marks, c: Claim) -> Marks
     ensures { λ r. ⌜ r ≡ withTicket m c ⌝ }
 {
     let bit = bit_of(c.ticket);
@@ -41,7 +41,7 @@ pub fn with_ticket(m: Marks, c: Claim) -> Marks
 }
 
 // No two claims have the same ticket.
-pub fn apart(s: &[u8]) -> bool
+pub(crate) fn apart(s: &[u8]) -> bool
     requires { ⌜ HoldsDisk (now s) ⌝ }
     ensures { λ r. ⌜ r ≡ ticketsDiffer (held (now (s .entry))) ⌝ }
 {

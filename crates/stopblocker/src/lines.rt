@@ -14,7 +14,7 @@ use num::signed::signed_at;
 use num::word::word_at;
 
 // All lines of one record.
-pub fn put_lines(out: &mut [u8], at: usize, number: u64, disk: u8, answer: &[u8]) -> usize
+pub(crate) fn put_lines(out: &mut [u8], at: usize, number: u64, disk: u8, answer: &[u8]) -> usize
     requires { ⌜ length (now answer) ≡ 144 ⌝ }
     requires { ⌜ at + 648 ≤ length (now out) ⌝ }
     ensures { λ r. ⌜ r ≡ at + length (linesOf number disk (now (answer .entry))) ⌝ }

@@ -8,7 +8,7 @@ ghost use Rattle.num.specs.Runs.{splice};
 ghost use Rattle.stopblocker.specs.Text.{digits, places, decimal, signedText};
 use num::signed::size;
 
-pub fn put_byte(out: &mut [u8], at: usize, b: u8) -> usize
+pub(crate) fn put_byte(out: &mut [u8], at: usize, b: u8) -> usize
     requires { ⌜ at < length (now out) ⌝ }
     ensures { λ r. ⌜ r ≡ at + 1 ⌝ }
     ensures { λ _. ⌜ now (out .exit) ≡ splice (now (out .entry)) at (b ∷ []) ⌝ }
@@ -18,7 +18,7 @@ pub fn put_byte(out: &mut [u8], at: usize, b: u8) -> usize
 }
 
 // A number in decimal.
-pub fn put_number(out: &mut [u8], at: usize, n: u64) -> usize
+pub(crate) fn put_number(out: &mut [u8], at: usize, n: u64) -> usize
     requires { ⌜ at + length (decimal n) ≤ length (now out) ⌝ }
     ensures { λ r. ⌜ r ≡ at + length (decimal n) ⌝ }
     ensures { λ _. ⌜ now (out .exit) ≡ splice (now (out .entry)) at (decimal n) ⌝ }
@@ -29,7 +29,7 @@ pub fn put_number(out: &mut [u8], at: usize, n: u64) -> usize
 }
 
 // A signed figure in decimal.
-pub fn put_signed(out: &mut [u8], at: usize, z: i32) -> usize
+pub(crate) fn put_signed(out: &mut [u8], at: usize, z: i32) -> usize
     requires { ⌜ at + length (signedText z) ≤ length (now out) ⌝ }
     ensures { λ r. ⌜ r ≡ at + length (signedText z) ⌝ }
     ensures { λ _. ⌜ now (out .exit) ≡ splice (now (out .entry)) at (signedText z) ⌝ }
