@@ -6,7 +6,7 @@ use lib.Dec.{leb, eqb}
 use lib.ListN.{length, take, drop, getD}
 use Rattle.num.specs.Word.{wordAt}
 use Rattle.num.specs.Signed.{signedAt}
-use Rattle.num.specs.Runs.{allZero}
+use Rattle.num.specs.Runs.{flat, allZero}
 use Rattle.law.specs.Base.{allTrue}
 use Rattle.law.specs.Types.{mostFlag, Asked}
 use Rattle.law.specs.History.{Call, claims, releases}
@@ -79,3 +79,10 @@ usedLimit r = wordAt r 16
 
 abbrev pub promisedLimit : List ℕ → ℕ
 promisedLimit r = wordAt r 20
+
+-- ---- a record made from its fields
+
+-- A record: the mark, kind, disk, method, priority, fresh flag and zero; then four words.
+abbrev pub laidOut : ℕ → ℕ → ℕ → ℕ → ℕ → List ℕ → List ℕ
+laidOut kind disk method priority flag words =
+    0x52 ∷ 0x42 ∷ kind ∷ disk ∷ method ∷ priority ∷ flag ∷ 0 ∷ flat words

@@ -10,7 +10,7 @@ ghost use Rattle.part.specs.Layout.{encode};
 ghost use Rattle.desk.specs.Board.{withPart};
 ghost use Rattle.desk.specs.Record.{nowOf, usedLimit, promisedLimit};
 ghost use Rattle.desk.specs.Step.{opening, onBoard, stepOf, stepped, written};
-ghost use Rattle.desk.specs.Counts.{countOf};
+ghost use Rattle.desk.specs.Counts.{countOf, openOn};
 use crate::record::DISK_AT;
 use crate::record::KIND_AT;
 use crate::record::NOW_AT;
@@ -127,4 +127,17 @@ pub fn open_disks(board: &[u8]) -> Count
         return Count::Length;
     }
     Count::Disks(open_count(board))
+}
+
+// Whether a disk is open: none is on a board of another length, and there is none above 63.
+pub fn open_at(board: &[u8], d: usize) -> bool
+    ensures { λ r. ⌜ r ≡ openOn (now (board .entry)) d ⌝ }
+{
+    if board.len() != BOARD_BYTES {
+        return false;
+    }
+    if d < DISKS {
+        return is_open(board, d);
+    }
+    false
 }

@@ -3,11 +3,12 @@
 ghost use mathlib.Core.Path.{_≡_};
 ghost use lib.ListN.{length};
 ghost use Rattle.law.specs.Types.{claimOf};
-ghost use Rattle.desk.specs.Record.{wellFormed, kindFits, askedIn};
+ghost use Rattle.desk.specs.Record.{wellFormed, kindFits, askedIn, laidOut};
 use law::Claim;
 use law::limits::MOST_FLAG;
 use num::signed::signed_at;
 use num::truth::both;
+use num::word::put_word;
 use num::word::word_at;
 use part::whole::zero_between;
 
@@ -113,4 +114,23 @@ pub(crate) fn asked_in(r: &[u8], ticket: u32) -> Claim
         told: 0,
         amount: 0,
     }
+}
+
+// A record with these fields: the bytes in their order, then the words at 8, 12, 16 and 20. Whether it is well formed is another matter.
+pub fn laid_out(kind: u8, disk: u8, method: u8, priority: u8, flag: u8, words: [u32; 4]) -> [u8; 24]
+    ensures { λ r. ⌜ r ≡ laidOut kind disk method priority flag words ⌝ }
+{
+    let mut r = [0; 24];
+    r[0] = MARK;
+    r[1] = MARK_TOO;
+    r[KIND_AT] = kind;
+    r[DISK_AT] = disk;
+    r[METHOD_AT] = method;
+    r[PRIORITY_AT] = priority;
+    r[FLAG_AT] = flag;
+    put_word(&mut r, NOW_AT, words[0]);
+    put_word(&mut r, TICKET_AT, words[1]);
+    put_word(&mut r, VALUE_AT, words[2]);
+    put_word(&mut r, ERROR_AT, words[3]);
+    r
 }

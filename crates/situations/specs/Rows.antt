@@ -4,17 +4,12 @@ use mathlib.Core.Bool.{cond}
 use mathlib.Core.List.{List, [], _∷_}
 use lib.Dec.{eqb}
 use lib.ListN.{getD, replicate}
-use Rattle.num.specs.Runs.{flat}
+use Rattle.desk.specs.Record.{laidOut}
 use Rattle.desk.specs.Step.{stepOf}
 
 -- Field i of a row.
 abbrev pub fieldOf : List ℕ → ℕ → ℕ
 fieldOf q i = getD q i 0
-
--- A record: the mark, kind, disk, method, priority, fresh flag and zero; then four words.
-abbrev pub laidOut : ℕ → ℕ → ℕ → ℕ → ℕ → List ℕ → List ℕ
-laidOut kind disk method priority flag words =
-    0x52 ∷ 0x42 ∷ kind ∷ disk ∷ method ∷ priority ∷ flag ∷ 0 ∷ flat words
 
 -- The record of an open: now and the two limits.
 abbrev pub openOf : List ℕ → List ℕ

@@ -2,11 +2,11 @@
 
 ghost use mathlib.Core.Path.{_≡_};
 ghost use Prim.Native.Nat.{_%_};
-ghost use Rattle.situations.specs.Rows.{laidOut, claimOf, recordOf};
+ghost use Rattle.situations.specs.Rows.{claimOf, recordOf};
 use crate::rows::CLOSED;
 use crate::rows::OPEN;
 use crate::rows::RELEASE;
-use num::word::put_word;
+use desk::record::laid_out;
 
 // The disk of every situation, as in 01's printed run; and one that stays closed.
 pub const DISK: u8 = 3;
@@ -45,23 +45,4 @@ fn byte(x: u32) -> u8
     ensures { λ r. ⌜ r ≡ x % 256 ⌝ }
 {
     (x % 256) as u8
-}
-
-// A record with these fields; the last four are words.
-fn laid_out(kind: u8, disk: u8, method: u8, priority: u8, flag: u8, words: [u32; 4]) -> [u8; 24]
-    ensures { λ r. ⌜ r ≡ laidOut kind disk method priority flag words ⌝ }
-{
-    let mut r = [0; 24];
-    r[0] = 0x52;
-    r[1] = 0x42;
-    r[2] = kind;
-    r[3] = disk;
-    r[4] = method;
-    r[5] = priority;
-    r[6] = flag;
-    put_word(&mut r, 8, words[0]);
-    put_word(&mut r, 12, words[1]);
-    put_word(&mut r, 16, words[2]);
-    put_word(&mut r, 20, words[3]);
-    r
 }

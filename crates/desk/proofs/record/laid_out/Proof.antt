@@ -6,9 +6,9 @@ use borrow.Author.Needs.{needs}
 use lib.ListN.{length, getD, replicate}
 use Rattle.num.specs.Word.{putWord}
 use Rattle.num.specs.Runs.{le4, flat}
-use Rattle.situations.specs.Rows.{laidOut}
-use Rattle.situations.proofs.record.laid_out.Statement.{statement}
-use Rattle.situations.proofs.record.laid_out.Tie as tie
+use Rattle.desk.specs.Record.{laidOut}
+use Rattle.desk.proofs.record.laid_out.Statement.{statement}
+use Rattle.desk.proofs.record.laid_out.Tie as tie
 
 -- A list of four is its four.
 four : (w : List ℕ) → length w ≡ 4 → getD w 0 0 ∷ getD w 1 0 ∷ getD w 2 0 ∷ getD w 3 0 ∷ [] ≡ w
