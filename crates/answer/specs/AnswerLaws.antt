@@ -1,4 +1,4 @@
--- Laws of the answers: a refusal and its number determine each other, the buffer has 144 bytes, and one more grant is one more item.
+-- Laws of the answers: the numbers of the refusals, the buffer has 144 bytes, and one more grant is one more item.
 use Prim.Native.Nat.{ℕ, zero, suc, _+_, _*_, _-_, _≤_, _<_}
 use mathlib.Core.Bool.{true}
 use mathlib.Core.List.{List, [], _∷_, _++_, append-assoc, append-nil}
@@ -32,25 +32,24 @@ use Rattle.answer.specs.Answers.{
 
 -- ---- refusals and their numbers
 
--- Each refusal is the one that its number gives, and its number is 9 to 21.
-each : (r : Refusal) → (refusalOf (numberOf r) ≡ r) × (leb 9 (numberOf r) ≡ true) × (leb (numberOf r) 21 ≡ true)
-unfolding refusalOf
-each R.Length = (refl, refl, refl)
-each R.Record = (refl, refl, refl)
-each R.Disk = (refl, refl, refl)
-each R.Open = (refl, refl, refl)
-each R.Closed = (refl, refl, refl)
-each R.Unsound = (refl, refl, refl)
-each R.Clock = (refl, refl, refl)
-each R.Method = (refl, refl, refl)
-each R.Field = (refl, refl, refl)
-each R.OwnError = (refl, refl, refl)
-each R.NoTicket = (refl, refl, refl)
-each R.Full = (refl, refl, refl)
-each R.Ticket = (refl, refl, refl)
+-- The number of each refusal is 9 to 21.
+each : (r : Refusal) → (leb 9 (numberOf r) ≡ true) × (leb (numberOf r) 21 ≡ true)
+each R.Length = (refl, refl)
+each R.Record = (refl, refl)
+each R.Disk = (refl, refl)
+each R.Open = (refl, refl)
+each R.Closed = (refl, refl)
+each R.Unsound = (refl, refl)
+each R.Clock = (refl, refl)
+each R.Method = (refl, refl)
+each R.Field = (refl, refl)
+each R.OwnError = (refl, refl)
+each R.NoTicket = (refl, refl)
+each R.Full = (refl, refl)
+each R.Ticket = (refl, refl)
 
 pub number-range : (r : Refusal) → (9 ≤ numberOf r) × (numberOf r ≤ 21)
-number-range r = (leb-true 9 (numberOf r) (each r .1), leb-true (numberOf r) 21 (each r .2))
+number-range r = (leb-true 9 (numberOf r) (each r .0), leb-true (numberOf r) 21 (each r .1))
 
 -- The first n numbers from 9 on are the numbers of the refusals that they give.
 abbrev Back : ℕ → Type 0

@@ -1,16 +1,18 @@
 -- 01's number of each refusal, the code, ticket, told and amount of each answer, and the bytes of the answer buffer.
 use Prim.Native.Nat.{ℕ, _+_, _*_, _-_}
-use mathlib.Core.Bool.{cond}
+use mathlib.Core.Bool.{cond, _&&_}
 use mathlib.Core.List.{List, [], _∷_, _++_}
 use mathlib.Core.Path.{_≡_}
-use lib.Dec.{eqb}
+use lib.Dec.{leb, eqb}
 use lib.IntN.{ℤ, pos}
 use lib.ListN.{length, replicate}
-use Rattle.num.specs.Signed.{wordOf}
+use Rattle.num.specs.Word.{wordAt}
+use Rattle.num.specs.Signed.{wordOf, signedAt}
 use Rattle.num.specs.Runs.{flat}
 use Rattle.answer.specs.declared.Refusal.{Refusal}
 use Rattle.answer.specs.declared.Refusal.the-variants as R
 use Rattle.answer.specs.declared.Answer.{Answer}
+use Rattle.answer.specs.declared.Shown.{Shown}
 use Rattle.answer.specs.declared.Answer.the-variants as A
 
 -- ---- refusals
@@ -103,3 +105,20 @@ pub record OwnOnly (s : List ℕ) : Type 0 where
 -- If s holds an answer and no grants, t holds the same answer followed by these grants.
 abbrev pub Behind : List ℕ → List Answer → List ℕ → Type 0
 Behind s grants t = (own : Answer) → s ≡ answerBytes own [] → t ≡ answerBytes own grants
+
+-- ---- an item read back
+
+-- The figures of an answer, as an item shows them.
+abbrev pub shownOf : Answer → Shown
+shownOf a = record { code = codeOf a; ticket = ticketOf a; told = toldOf a; amount = amountOf a }
+
+abbrev pub nothing : Shown
+nothing = record { code = 0; ticket = 0; told = pos 0; amount = 0 }
+
+-- The figures of item k of a buffer: 0 the call's own answer, 1 to 8 the grants. A buffer of another length shows nothing, and there is
+-- no item above 8.
+unfoldable pub shownAt : List ℕ → ℕ → Shown
+shownAt s k =
+    cond (eqb (length s) answerSize && leb k 8)
+    (record { code = wordAt s (16 * k); ticket = wordAt s (16 * k + 4); told = signedAt s (16 * k + 8); amount = wordAt s (16 * k + 12) })
+    nothing

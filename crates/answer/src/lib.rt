@@ -8,14 +8,18 @@ ghost use lib.ListN.{length, replicate};
 ghost use Rattle.num.specs.Runs.{flat, splice};
 ghost use Rattle.num.specs.Signed.{wordOf};
 ghost use Rattle.answer.specs.declared.Answer.the-variants.{Granted};
-ghost use Rattle.answer.specs.Answers.{numberOf, codeOf, ticketOf, toldOf, amountOf, itemBytes, answerBytes};
+ghost use Rattle.answer.specs.Answers.{numberOf, codeOf, ticketOf, toldOf, amountOf, itemBytes, answerBytes, shownAt};
+use num::signed::signed_at;
 use num::signed::to_word;
 use num::word::put_word;
+use num::word::word_at;
 
 // The answer buffer: nine items.
 pub const ANSWER_BYTES: usize = 144;
 
 const ITEM_BYTES: usize = 16;
+
+const MOST_GRANTS: usize = 8;
 
 // The refusals, 9 to 21 in 01's order.
 pub enum Refusal {
@@ -158,5 +162,37 @@ fn amount(a: Answer) -> u32
         Answer::Released(_) => 0,
         Answer::Opened => 0,
         Answer::Refused(_) => 0,
+    }
+}
+
+// An item of the answer buffer as it shows.
+pub struct Shown {
+    pub code: u32,
+    pub ticket: u32,
+    pub told: i32,
+    pub amount: u32,
+}
+
+// Item k of an answer buffer: 0 the call's own answer, 1 to 8 the grants of its pass. A buffer of another length shows nothing, and
+// there is no item above 8.
+pub fn shown_at(answer: &[u8], k: usize) -> Shown
+    ensures { λ r. ⌜ r ≡ shownAt (now (answer .entry)) k ⌝ }
+{
+    if answer.len() == ANSWER_BYTES {
+        if k <= MOST_GRANTS {
+            let at = ITEM_BYTES * k;
+            return Shown {
+                code: word_at(answer, at),
+                ticket: word_at(answer, at + 4),
+                told: signed_at(answer, at + 8),
+                amount: word_at(answer, at + 12),
+            };
+        }
+    }
+    Shown {
+        code: 0,
+        ticket: 0,
+        told: 0,
+        amount: 0,
     }
 }

@@ -10,20 +10,20 @@ use borrow.Author.Tests.{lt-ltb, le-ltb, ne-eqb}
 use lib.Dec.{ltb}
 use lib.IntN.{ℤ, pos, negsuc}
 use lib.ListN.{length, getD, replicate, length-append}
-use lib.Seq.{getD-append-add}
-use lib.Signed.{mag, natAbs-le}
+use lib.Signed.{natAbs-le}
 use Rattle.num.specs.Word.{Bytes, wordAt}
 use Rattle.num.specs.WordLaws.{word-at-fits}
-use Rattle.num.specs.Signed.{signedOf, wordOf, signedAt, signed-word, word-fits, signed-fits}
+use Rattle.num.specs.Signed.{signedAt, signed-fits}
 use Rattle.num.specs.Metric.{size}
-use Rattle.num.specs.Runs.{le4, flat, splice}
+use Rattle.num.specs.Runs.{splice}
 use Rattle.num.specs.RunLaws.{length-splice, splice-splice}
 use Rattle.law.specs.Base.{All}
 use Rattle.law.specs.Lists.{never-true, getD-filled}
 use Rattle.law.specs.Says.{by-test}
 use Rattle.answer.specs.declared.Answer.{Answer}
-use Rattle.answer.specs.Answers.{codeOf, ticketOf, toldOf, amountOf, itemBytes, itemsBytes, answerBytes}
-use Rattle.answer.specs.AnswerLaws.{length-item, code-most}
+use Rattle.answer.specs.Answers.{ticketOf, itemBytes, itemsBytes, answerBytes}
+use Rattle.answer.specs.AnswerLaws.{length-item}
+use Rattle.answer.specs.ItemLaws.{ItemFits, word-behind, code-there, ticket-there, told-there, amount-there}
 use Rattle.stopblocker.specs.Text.{decimal, signedText}
 use Rattle.stopblocker.specs.TextLaws.{length-decimal, places-most, places-bound}
 use Rattle.stopblocker.specs.Lines.{next, figures, itemText, lineOf, isGrant, grantLines, linesOf, answerLine, plusLines}
@@ -158,27 +158,9 @@ module _ (number disk : ℕ) (a : List ℕ) (h : disk < 256) (b : Bytes a) where
 
 -- ---- the lines are those of the answer and its grants
 
--- The figures of an answer fit an item of 16 bytes.
-pub record ItemFits (x : Answer) : Type 0 where
-  pub ticket : ticketOf x < 2 ^ 32
-  pub told : mag (toldOf x) < 2 ^ 31
-  pub amount : amountOf x < 2 ^ 32
-
 -- A grant's ticket is 1 or more.
 abbrev pub GrantFits : Answer → Type 0
 GrantFits x = ItemFits x × (1 ≤ ticketOf x)
-
--- The words behind a run of bytes.
-word-behind : (xs ys : List ℕ) (n j : ℕ) → length xs ≡ n → wordAt (xs ++ ys) (n + j) ≡ wordAt ys j
-unfolding wordAt
-word-behind xs ys n j h =
-    let first : getD (xs ++ ys) (n + j) 0 ≡ getD ys j 0 = ap (λ m. getD (xs ++ ys) (m + j) 0) (sym h) ∙ getD-append-add xs ys j 0 in
-    rw (first, byte 1, byte 2, byte 3)
-  where
-    byte : (i : ℕ) → getD (xs ++ ys) (n + j + i) 0 ≡ getD ys (j + i) 0
-    byte i =
-        let e : n + j + i ≡ length xs + (j + i) = omega arith in
-        ap (λ m. getD (xs ++ ys) m 0) e ∙ getD-append-add xs ys (j + i) 0
 
 -- A word of zeros is 0, also past their end.
 word-zeros : (n j : ℕ) → wordAt (replicate n 0) j ≡ 0
@@ -188,51 +170,18 @@ word-zeros n j = rw (byte j, byte (j + 1), byte (j + 2), byte (j + 3))
     byte : (i : ℕ) → getD {A = ℕ} (replicate n 0) i 0 ≡ 0
     byte i = getD-filled n i 0
 
-four-words : (c t w m : ℕ) (rest : List ℕ) → c < 2 ^ 32 → t < 2 ^ 32 → w < 2 ^ 32 → m < 2 ^ 32 →
-    (wordAt (flat (c ∷ t ∷ w ∷ m ∷ []) ++ rest) 0 ≡ c)
-    × (wordAt (flat (c ∷ t ∷ w ∷ m ∷ []) ++ rest) 4 ≡ t)
-    × (wordAt (flat (c ∷ t ∷ w ∷ m ∷ []) ++ rest) 8 ≡ w)
-    × (wordAt (flat (c ∷ t ∷ w ∷ m ∷ []) ++ rest) 12 ≡ m)
-unfolding flat le4 wordAt
-four-words c t w m rest hc ht hw hm = (omega arith, omega arith, omega arith, omega arith)
-
 -- An answer's item stands behind k others.
 module _ (k : ℕ) (front : List ℕ) (h : length front ≡ 16 * k) (x : Answer) (rest : List ℕ) (f : ItemFits x) where
   abbrev whole : List ℕ
   whole = front ++ (itemBytes x ++ rest)
 
-  item-words :
-      (wordAt (itemBytes x ++ rest) 0 ≡ codeOf x)
-      × (wordAt (itemBytes x ++ rest) 4 ≡ ticketOf x)
-      × (wordAt (itemBytes x ++ rest) 8 ≡ wordOf (toldOf x))
-      × (wordAt (itemBytes x ++ rest) 12 ≡ amountOf x)
-  unfolding itemBytes
-  item-words =
-      four-words (codeOf x) (ticketOf x) (wordOf (toldOf x)) (amountOf x) rest
-      (omega (arith, code-most x)) (f .ticket) (word-fits (toldOf x) (f .told)) (f .amount)
-
-  code-there : wordAt whole (16 * k) ≡ codeOf x
-  code-there =
-      let e : 16 * k ≡ 16 * k + 0 = omega arith in
-      ap (wordAt whole) e ∙ (word-behind front (itemBytes x ++ rest) (16 * k) 0 h ∙ item-words .0)
-
-  ticket-there : wordAt whole (16 * k + 4) ≡ ticketOf x
-  ticket-there = word-behind front (itemBytes x ++ rest) (16 * k) 4 h ∙ item-words .1
-
-  told-there : signedAt whole (16 * k + 8) ≡ toldOf x
-  told-there =
-      ap signedOf (word-behind front (itemBytes x ++ rest) (16 * k) 8 h ∙ item-words .2) ∙ signed-word (toldOf x) (f .told)
-
-  amount-there : wordAt whole (16 * k + 12) ≡ amountOf x
-  amount-there = word-behind front (itemBytes x ++ rest) (16 * k) 12 h ∙ item-words .3
-
   line-shown : (number disk : ℕ) → lineOf number disk whole k ≡ answerLine number disk x
   unfolding lineOf answerLine
-  line-shown number disk = rw (code-there, ticket-there, told-there, amount-there)
+  line-shown number disk = rw (code-there k front h x rest f, ticket-there k front h x rest f, told-there k front h x rest f, amount-there k front h x rest f)
 
   grant-shown : k ≤ 8 → 1 ≤ ticketOf x → isGrant whole k ≡ true
   unfolding isGrant
-  grant-shown l t = rw (le-ltb 8 k l, ticket-there, ne-eqb (ticketOf x) 0 (λ e. omega arith))
+  grant-shown l t = rw (le-ltb 8 k l, ticket-there k front h x rest f, ne-eqb (ticketOf x) 0 (λ e. omega arith))
 
 -- Behind the last grant the buffer is zero: no line.
 none-shown : (k : ℕ) (front : List ℕ) → length front ≡ 16 * k → (n : ℕ) → isGrant (front ++ replicate n 0) k ≡ false

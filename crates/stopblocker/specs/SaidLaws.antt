@@ -38,7 +38,8 @@ use Rattle.desk.specs.Record.{diskNumber, nowOf, askedIn, callOf, usedLimit, pr
 use Rattle.desk.specs.Board.{partOf}
 use Rattle.desk.specs.Step.{Said, refuses, accepts, ownOf, grantsOf, settled, serveOf, opening, effectOf}
 use Rattle.desk.specs.StepLaws.{by-answer, by-call, by-serve, by-effect}
-use Rattle.stopblocker.specs.LineLaws.{ItemFits, GrantFits}
+use Rattle.answer.specs.ItemLaws.{ItemFits}
+use Rattle.stopblocker.specs.LineLaws.{GrantFits}
 
 -- ---- items
 
