@@ -70,24 +70,36 @@ module _ (s : tie.Start) where
 
 -- ---- the tests before the decision
 
+abbrev at-state : tie.After-checked → tie.After-state-at
+at-state k = k .before .before
+
+abbrev at-promised : tie.After-checked → tie.After-promised-at
+at-promised k = at-state k .before
+
+abbrev at-used : tie.After-checked → tie.After-used-at
+at-used k = at-promised k .before
+
 abbrev start : tie.After-checked → tie.Start
-start k = k .before .before .before .before .before .before
+start k = at-used k .before .before
 
 tests : (k : tie.After-checked) →
     k .checked .result ≡ firstRefusal (firstRules (figuresIn (disk (start k))) (disk (start k) .clock) (second (start k)) (asks (start k)))
 tests k =
-    tests-by (disk (start k)) (asks (start k)) (k .before .before .before .before .used-at .ensures) (k .before .before .before .promised-at .ensures) (k .before .before .state-at .ensures) (second (start k))
+    tests-by (disk (start k)) (asks (start k)) (at-used k .used-at .ensures) (at-promised k .promised-at .ensures) (at-state k .state-at .ensures) (second (start k))
     (k .before .clock-at .ensures) (k .checked .ensures)
 
 -- ---- the decision
 
+abbrev checked : tie.After-waitings-at → tie.After-checked
+checked w = w .before .before .before
+
 abbrev begun : tie.After-decide → tie.Start
-begun k = start (k .before .before .before .before)
+begun k = start (checked (k .before))
 
 -- No test refuses.
 passed : (k : tie.After-decide) →
     T.Passed ≡ firstRefusal (firstRules (figuresIn (disk (begun k))) (disk (begun k) .clock) (second (begun k)) (asks (begun k)))
-passed k = sym (k .before .before .enum-told .given .1) ∙ tests (k .before .before .before .before)
+passed k = sym (k .before .before .enum-told .given .1) ∙ tests (checked (k .before))
 
 waitings-is : (k : tie.After-decide) → k .before .waitings-at .result ≡ disk (begun k) .waitings
 waitings-is k = k .before .waitings-at .ensures
@@ -108,8 +120,8 @@ takes k g =
 told-is : (t : tie.After-told) →
     t .told .result ≡ toldBy (figuresIn (disk (begun (t .before .before)))) (kindOf diskTable (asks (begun (t .before .before))))
 told-is t =
-    let k = t .before .before .before .before .before .before in
-    told-by (disk (start k)) (asks (start k)) (k .before .before .before .before .used-at .ensures) (k .before .before .before .promised-at .ensures) (k .before .before .state-at .ensures) (t .told .ensures .0)
+    let k = checked (t .before .before .before) in
+    told-by (disk (start k)) (asks (start k)) (at-used k .used-at .ensures) (at-promised k .promised-at .ensures) (at-state k .state-at .ensures) (t .told .ensures .0)
 
 -- So many claims wait.
 line : (k : tie.After-decide) → length (take (disk (begun k) .waitings) (disk (begun k) .waiting)) ≡ k .before .waitings-at .result
@@ -124,7 +136,7 @@ returns c =
 
 decide-requires : tie.Need-decide-requires
 decide-requires c κs =
-    let s = c .before .before .before .before .before .before .before .before .before in
+    let s = start (checked c) in
     (s .pre .0 .disk, (omega (arith, good s .waiting .few, c .waitings-at .ensures), s .pre .1 .1))
 
 narrow-requires : tie.Need-narrow-requires

@@ -133,48 +133,58 @@ module _ (b : tie.Then3) where
 returns : tie.Need-returns
 unfolding refusalOf
 returns c =
-    let k = at-clock (c .before .before .before .before .before) in
+    let t = c .before .before .before .before in
+    let k = at-clock (t .before) in
     let e = c .before .before .refuse .ensures in
     step-refused (k .args .part .now) 15
-    (release-early (law k) (k .args .second) (k .args .ticket) (omega (arith, c .before .before .before .before .if1 .taken, c .before .before .before .before .before .clock-at .ensures))) (e .0) (e .1)
+    (release-early (law k) (k .args .second) (k .args .ticket) (omega (arith, t .if1 .taken, t .before .clock-at .ensures))) (e .0) (e .1)
 
 end-requires : tie.Need-end-requires
 end-requires c κs = (start (c .before) .pre .0, here (c .before))
 
 settle-requires : tie.Need-settle-requires
 settle-requires c κs =
-    let b = c .before .before .before .before .before .before in
-    (made (ended b) (sound-ended b) (clock-ended b) (c .before .before .before .before .«end» .ensures), start b .pre .1)
+    let e = c .before .before .before .before in
+    let b = e .before .before in
+    (made (ended b) (sound-ended b) (clock-ended b) (e .«end» .ensures), start b .pre .1)
 
 returns-2 : tie.Need-returns-2
 returns-2 c =
-    let b = c .before .before .before .before .before .before .before .before .before .before .before in
+    let z = c .before .before .before .before in
+    let lent = z .before in
+    let e = lent .before .before .before .before in
+    let b = e .before .before in
     let k = start b in
-    settle-as (ended b) (sound-ended b) (clock-ended b) (c .before .before .before .before .before .before .before .before .before .«end» .ensures) (k .args .part .now) (k .args .ticket) (release-ended b) (c .before .before .before .before .settle .ensures)
+    settle-as (ended b) (sound-ended b) (clock-ended b) (e .«end» .ensures) (k .args .part .now) (k .args .ticket) (release-ended b) (z .settle .ensures)
 
 leave-requires : tie.Need-leave-requires
 leave-requires c κs = (start-2 (c .before) .pre .0 .disk, here-2 (c .before))
 
 settle-requires-2 : tie.Need-settle-requires-2
 settle-requires-2 c κs =
-    let b = c .before .before .before .before .before .before in
-    (made (left b) (sound-left b) (clock-left b) (c .before .before .before .before .leave .ensures), start-2 b .pre .1)
+    let e = c .before .before .before .before in
+    let b = e .before .before in
+    (made (left b) (sound-left b) (clock-left b) (e .leave .ensures), start-2 b .pre .1)
 
 returns-3 : tie.Need-returns-3
 returns-3 c =
-    let b = c .before .before .before .before .before .before .before .before .before .before .before in
+    let z = c .before .before .before .before in
+    let lent = z .before in
+    let e = lent .before .before .before .before in
+    let b = e .before .before in
     let k = start-2 b in
-    settle-as (left b) (sound-left b) (clock-left b) (c .before .before .before .before .before .before .before .before .before .leave .ensures) (k .args .part .now) (k .args .ticket) (release-left b) (c .before .before .before .before .settle2 .ensures)
+    settle-as (left b) (sound-left b) (clock-left b) (e .leave .ensures) (k .args .part .now) (k .args .ticket) (release-left b) (z .settle2 .ensures)
 
 returns-4 : tie.Need-returns-4
 unfolding refusalOf
 returns-4 c =
-    let w = c .before .before .before .before .before in
+    let t = c .before .before .before .before in
+    let w = t .before in
     let k = at-line w in
     let e = c .before .before .refuse2 .ensures in
     step-refused (k .args .part .now) 21
     (release-lost (law k) (k .args .second) (k .args .ticket) (late (else-1 (else-2 w .before))) (none (else-2 w))
-    (omega (arith, c .before .before .before .before .if3 .left, w .waitings-at .ensures, place-2 w, row-length (good k .waiting))))
+    (omega (arith, t .if3 .left, w .waitings-at .ensures, place-2 w, row-length (good k .waiting))))
     (e .0) (e .1)
 
 pub serve-release-spec : {M : Type 1} → statement M

@@ -55,23 +55,38 @@ returns c =
 abbrev Read : Type 0
 Read = tie.After-raise-of Inv-loop μ-loop
 
+abbrev at-index : Read → tie.After-index-of Inv-loop μ-loop
+at-index r = r .before .before
+
+abbrev at-state : Read → tie.After-state-at Inv-loop μ-loop
+at-state r = at-index r .before
+
+abbrev at-promised : Read → tie.After-promised-at Inv-loop μ-loop
+at-promised r = at-state r .before
+
+abbrev at-used : Read → tie.After-used-at Inv-loop μ-loop
+at-used r = at-promised r .before
+
+abbrev at-count : Read → tie.After-actives-at Inv-loop μ-loop
+at-count r = at-used r .before
+
 abbrev start : Read → tie.Start Inv-loop μ-loop
-start r = r .before .before .before .before .before .before .before .before .before .before
+start r = at-count r .before .before .before .before
 
 abbrev disk : Read → Disk
 disk r = decode (start r .args .s .now)
 
 abbrev count : Read → ℕ
-count r = r .before .before .before .before .before .before .actives-at .result
+count r = at-count r .actives-at .result
 
 abbrev figures : Read → Figures
-figures r = figuresOf (r .before .before .before .before .before .used-at .result) (r .before .before .before .before .promised-at .result) (r .before .before .before .state-at .result)
+figures r = figuresOf (at-used r .used-at .result) (at-promised r .promised-at .result) (at-state r .state-at .result)
 
 abbrev actives : Read → List Claim
 actives r = take (count r) (disk r .active)
 
 count-is : (r : Read) → count r ≡ disk r .actives
-count-is r = r .before .before .before .before .before .before .actives-at .ensures
+count-is r = at-count r .actives-at .ensures
 
 row : (r : Read) → Row (disk r .active) (count r)
 row r = active-row (start r .pre .0) (count-is r)
@@ -79,8 +94,31 @@ row r = active-row (start r .pre .0) (count-is r)
 -- A test and a sum by what has been read are those by the disk.
 by-disk : {X : Type 0} (r : Read) (f : Figures → List Claim → X) → f (figures r) (actives r) ≡ f (figuresIn (disk r)) (activesIn (disk r))
 by-disk r f j =
-    f (figuresOf (r .before .before .before .before .before .used-at .ensures j) (r .before .before .before .before .promised-at .ensures j) (r .before .before .before .state-at .ensures j))
+    f (figuresOf (at-used r .used-at .ensures j) (at-promised r .promised-at .ensures j) (at-state r .state-at .ensures j))
     (take (count-is r j) (disk r .active))
+
+-- ---- the stops of a turn, each from behind: the claim read, its index, the walk, and what was read before it
+
+abbrev at-claim : tie.After-index-of2 Inv-loop μ-loop → tie.After-active-at Inv-loop μ-loop
+at-claim k = k .before
+
+abbrev in-turn : tie.After-index-of2 Inv-loop μ-loop → tie.In-loop Inv-loop μ-loop
+in-turn k = at-claim k .before
+
+abbrev walk : tie.After-index-of2 Inv-loop μ-loop → tie.At-loop Inv-loop μ-loop
+walk k = in-turn k .before
+
+abbrev read : tie.After-index-of2 Inv-loop μ-loop → Read
+read k = walk k .before
+
+abbrev at-entry : tie.After-entry Inv-loop μ-loop → tie.After-index-of2 Inv-loop μ-loop
+at-entry c = c .before .before
+
+abbrev at-lets : tie.After-lets Inv-loop μ-loop → tie.After-index-of2 Inv-loop μ-loop
+at-lets l = at-entry (l .before)
+
+abbrev at-cost : tie.After-cost Inv-loop μ-loop → tie.After-index-of2 Inv-loop μ-loop
+at-cost c = at-lets (c .before .before)
 
 loop-holds : tie.Need-loop-holds Inv-loop μ-loop
 loop-holds c = (omega arith, omega arith, refl, omega arith)
@@ -95,53 +133,53 @@ index-1-found : tie.Need-index-1-found Inv-loop μ-loop
 index-1-found c = c .index-of2 .ensures .1
 
 index-2-found : tie.Need-index-2-found Inv-loop μ-loop
-index-2-found c = c .before .before .before .before .before .before .index-of .ensures .1
+index-2-found c = at-index (read c) .index-of .ensures .1
 
 entry-requires : tie.Need-entry-requires Inv-loop μ-loop
 unfolding diskEntries
 entry-requires c κs =
     let k = c .before in
-    let r = k .before .before .before .before in
-    found-at (k .before .active-at .result .method) (start r .args .c .method)
-    (k .index-of2 .result) (r .before .before .index-of .result) (k .index-of2 .ensures .0) (r .before .before .index-of .ensures .0)
+    let r = read k in
+    found-at (at-claim k .active-at .result .method) (start r .args .c .method)
+    (k .index-of2 .result) (at-index r .index-of .result) (k .index-of2 .ensures .0) (at-index r .index-of .ensures .0)
 
 lets-requires : tie.Need-lets-requires Inv-loop μ-loop
-lets-requires c κs = c .before .before .before .before .before .before .raise-of .ensures .1
+lets-requires c κs = read (at-entry c) .raise-of .ensures .1
 
 add-sum : tie.Need-add-sum Inv-loop μ-loop
 add-sum c =
-    let l = c .before .before .before .before .before .before .before .before in
+    let l = walk (at-cost c) in
     record { fits = omega (arith, l .loop .inv .0, l .loop .inv .1, row (l .before) .few, c .cost .ensures .1) }
 
 add-i : tie.Need-add-i Inv-loop μ-loop
 add-i c =
-    let t = c .before .before .before .before .before .before .before in
+    let t = in-turn (at-cost c) in
     record { fits = omega (arith, t .loop-test .taken, row (t .before .before) .few) }
 
 lets-there : (l : tie.After-lets Inv-loop μ-loop) →
-    let w = l .before .before .before .before .before .before in
+    let w = walk (at-lets l) in
     letsOf (figures (w .before)) (start (w .before) .args .c) (getD (disk (w .before) .active) (w .loop .i) noClaim) ≡ l .lets .result
 lets-there l =
-    let r = l .before .before .before .before .before .before .before in
+    let r = read (at-lets l) in
     let c = start r .args .c in
-    let x = l .before .before .before .before .active-at in
+    let x = at-claim (at-lets l) .active-at in
     sym (ap (letsOf (figures r) c) (x .ensures))
     ∙ sym (lets-at (figures r) c (x .result) (l .before .entry .ensures) (r .before .is-reading .ensures) (r .raise-of .ensures .0) (l .lets .ensures))
 
 cost-there : (k : tie.After-cost Inv-loop μ-loop) →
-    let w = k .before .before .before .before .before .before .before .before in
+    let w = walk (at-cost k) in
     k .cost .result ≡ costOf (figures (w .before)) (start (w .before) .args .c) (getD (disk (w .before) .active) (w .loop .i) noClaim)
 cost-there k =
-    let r = k .before .before .before .before .before .before .before .before .before in
+    let r = read (at-cost k) in
     let c = start r .args .c in
-    let x = k .before .before .before .before .before .before .active-at in
+    let x = at-claim (at-cost k) .active-at in
     cost-at (figures r) c (x .result) (k .before .before .before .entry .ensures) (r .before .is-reading .ensures) (k .cost .ensures .0)
     ∙ ap (costOf (figures r) c) (x .ensures)
 
 loop-again : tie.Need-loop-again Inv-loop μ-loop
 loop-again c =
     let l = c .before .before in
-    let t = l .before .before .before .before .before in
+    let t = in-turn (at-lets l) in
     let w = t .before in
     let r = w .before in
     let q = start r .args .c in (
@@ -154,7 +192,7 @@ loop-again c =
 returns-2 : tie.Need-returns-2 Inv-loop μ-loop
 returns-2 c =
     let l = c .before in
-    let t = l .before .before .before .before .before in
+    let t = in-turn (at-lets l) in
     let w = t .before in
     let r = w .before in
     let q = start r .args .c in (
