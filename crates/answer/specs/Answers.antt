@@ -1,7 +1,7 @@
 -- 01's number of each refusal, the code, ticket, told and amount of each answer, and the bytes of the answer buffer.
 use Rattle.std.specs.Prelude.{ℕ, ◌+◌, ◌*◌, ◌-◌, cond, ◌&&◌, List, [], ◌∷◌, ◌++◌, ◌≡◌, leb, eqb, ℤ, pos, length, replicate}
-use Rattle.num.specs.Word.{wordAt}
-use Rattle.num.specs.Signed.{word_of, signedAt}
+use Rattle.num.specs.Word.{word_at}
+use Rattle.num.specs.Signed.{word_of, signed_at}
 use Rattle.num.specs.Runs.{flat}
 use Rattle.answer.specs.declared.Refusal.{Refusal}
 use Rattle.answer.specs.declared.Refusal.TheVariants as R
@@ -27,8 +27,8 @@ number_of R.Full = 20
 number_of R.Ticket = 21
 
 -- The refusal with number n; any other number gives `Ticket`.
-unfoldable pub refusalOf : ℕ → Refusal
-refusalOf n =
+unfoldable pub refusal_of : ℕ → Refusal
+refusal_of n =
     cond (eqb n 9) R.Length
     (cond (eqb n 10) R.Record
     (cond (eqb n 11) R.Disk
@@ -53,66 +53,66 @@ code_of A.Opened = 3
 code_of (A.Refused r) = number_of r
 
 -- Waits and released carry only the ticket, opened and a refusal nothing.
-abbrev pub ticketOf : Answer → ℕ
-ticketOf (A.Granted t z m) = t
-ticketOf (A.Waits t) = t
-ticketOf (A.Released t) = t
-ticketOf A.Opened = 0
-ticketOf (A.Refused r) = 0
+abbrev pub ticket_of : Answer → ℕ
+ticket_of (A.Granted t z m) = t
+ticket_of (A.Waits t) = t
+ticket_of (A.Released t) = t
+ticket_of A.Opened = 0
+ticket_of (A.Refused r) = 0
 
-abbrev pub toldOf : Answer → ℤ
-toldOf (A.Granted t z m) = z
-toldOf (A.Waits t) = pos 0
-toldOf (A.Released t) = pos 0
-toldOf A.Opened = pos 0
-toldOf (A.Refused r) = pos 0
+abbrev pub told_of : Answer → ℤ
+told_of (A.Granted t z m) = z
+told_of (A.Waits t) = pos 0
+told_of (A.Released t) = pos 0
+told_of A.Opened = pos 0
+told_of (A.Refused r) = pos 0
 
-abbrev pub amountOf : Answer → ℕ
-amountOf (A.Granted t z m) = m
-amountOf (A.Waits t) = 0
-amountOf (A.Released t) = 0
-amountOf A.Opened = 0
-amountOf (A.Refused r) = 0
+abbrev pub amount_of : Answer → ℕ
+amount_of (A.Granted t z m) = m
+amount_of (A.Waits t) = 0
+amount_of (A.Released t) = 0
+amount_of A.Opened = 0
+amount_of (A.Refused r) = 0
 
 -- ---- the buffer: nine items of 16 bytes
 
-abbrev pub answerSize : ℕ
-answerSize = 144
+abbrev pub answer_size : ℕ
+answer_size = 144
 
 -- An item: code, ticket, told as signed, amount.
-unfoldable pub itemBytes : Answer → List ℕ
-itemBytes a = flat (code_of a ∷ ticketOf a ∷ word_of (toldOf a) ∷ amountOf a ∷ [])
+unfoldable pub item_bytes : Answer → List ℕ
+item_bytes a = flat (code_of a ∷ ticket_of a ∷ word_of (told_of a) ∷ amount_of a ∷ [])
 
-unfoldable pub itemsBytes : List Answer → List ℕ
-itemsBytes [] = []
-itemsBytes (a ∷ more) = itemBytes a ++ itemsBytes more
+unfoldable pub items_bytes : List Answer → List ℕ
+items_bytes [] = []
+items_bytes (a ∷ more) = item_bytes a ++ items_bytes more
 
 -- First the call's own answer, then the pass's grants in order, unused items zero.
-unfoldable pub answerBytes : Answer → List Answer → List ℕ
-answerBytes own grants = itemBytes own ++ (itemsBytes grants ++ replicate (128 - 16 * length grants) 0)
+unfoldable pub answer_bytes : Answer → List Answer → List ℕ
+answer_bytes own grants = item_bytes own ++ (items_bytes grants ++ replicate (128 - 16 * length grants) 0)
 
 -- The buffer holds an answer and no grants.
 pub record OwnOnly (s : List ℕ) : Type 0 where
   pub own : Answer
-  pub is : s ≡ answerBytes own []
+  pub is : s ≡ answer_bytes own []
 
 -- If s holds an answer and no grants, t holds the same answer followed by these grants.
 abbrev pub Behind : List ℕ → List Answer → List ℕ → Type 0
-Behind s grants t = (own : Answer) → s ≡ answerBytes own [] → t ≡ answerBytes own grants
+Behind s grants t = (own : Answer) → s ≡ answer_bytes own [] → t ≡ answer_bytes own grants
 
 -- ---- an item read back
 
 -- The figures of an answer, as an item shows them.
-abbrev pub shownOf : Answer → Shown
-shownOf a = record { code = code_of a; ticket = ticketOf a; told = toldOf a; amount = amountOf a }
+abbrev pub shown_of : Answer → Shown
+shown_of a = record { code = code_of a; ticket = ticket_of a; told = told_of a; amount = amount_of a }
 
 abbrev pub nothing : Shown
 nothing = record { code = 0; ticket = 0; told = pos 0; amount = 0 }
 
 -- The figures of item k of a buffer: 0 the call's own answer, 1 to 8 the grants. A buffer of another length shows nothing, and there is
 -- no item above 8.
-unfoldable pub shownAt : List ℕ → ℕ → Shown
-shownAt s k =
-    cond (eqb (length s) answerSize && leb k 8)
-    (record { code = wordAt s (16 * k); ticket = wordAt s (16 * k + 4); told = signedAt s (16 * k + 8); amount = wordAt s (16 * k + 12) })
+unfoldable pub shown_at : List ℕ → ℕ → Shown
+shown_at s k =
+    cond (eqb (length s) answer_size && leb k 8)
+    (record { code = word_at s (16 * k); ticket = word_at s (16 * k + 4); told = signed_at s (16 * k + 8); amount = word_at s (16 * k + 12) })
     nothing

@@ -5,7 +5,7 @@ ghost use Rattle.std.specs.Prelude.{◌≡◌, [], ◌∷◌, ◌+◌, ◌*◌, 
 ghost use Rattle.num.specs.Runs.{flat, splice};
 ghost use Rattle.num.specs.Signed.{word_of};
 ghost use Rattle.answer.specs.declared.Answer.TheVariants.{Granted};
-ghost use Rattle.answer.specs.Answers.{number_of, code_of, ticketOf, toldOf, amountOf, itemBytes, answerBytes, shownAt};
+ghost use Rattle.answer.specs.Answers.{number_of, code_of, ticket_of, told_of, amount_of, item_bytes, answer_bytes, shown_at};
 
 use num::signed::{signed_at, to_word};
 use num::word::{put_word, word_at};
@@ -82,7 +82,7 @@ pub fn code(a: Answer) -> u32
 // Makes the buffer an answer with no grant behind it.
 pub fn put_answer(out: &mut [u8], a: Answer)
     requires { length out.old ≡ 144 }
-    ensures { out.new ≡ answerBytes a [] }
+    ensures { out.new ≡ answer_bytes a [] }
 {
     let n = code(a);
     let t = ticket(a);
@@ -96,7 +96,7 @@ pub fn put_answer(out: &mut [u8], a: Answer)
 pub fn put_grant(out: &mut [u8], k: usize, ticket: u32, told: i32, amount: u32)
     requires out_len { length out.old ≡ 144 }
     requires k_bound { k < 8 }
-    ensures { out.new ≡ splice out.old (16 + 16 * k) (itemBytes (Granted ticket told amount)) }
+    ensures { out.new ≡ splice out.old (16 + 16 * k) (item_bytes (Granted ticket told amount)) }
 {
     put_item(out, ITEM_BYTES + ITEM_BYTES * k, 0, ticket, told, amount);
 }
@@ -126,7 +126,7 @@ fn clear(out: &mut [u8])
 
 // The ticket of an answer; 0 of one that carries none.
 fn ticket(a: Answer) -> u32
-    ensures { result ≡ ticketOf a }
+    ensures { result ≡ ticket_of a }
 {
     match a {
         Answer::Granted(t, _, _) => t,
@@ -139,7 +139,7 @@ fn ticket(a: Answer) -> u32
 
 // What an answer tells; 0 of all but a grant.
 fn told(a: Answer) -> i32
-    ensures { result ≡ toldOf a }
+    ensures { result ≡ told_of a }
 {
     match a {
         Answer::Granted(_, z, _) => z,
@@ -152,7 +152,7 @@ fn told(a: Answer) -> i32
 
 // The amount of an answer; 0 of all but a grant.
 fn amount(a: Answer) -> u32
-    ensures { result ≡ amountOf a }
+    ensures { result ≡ amount_of a }
 {
     match a {
         Answer::Granted(_, _, m) => m,
@@ -175,7 +175,7 @@ pub struct Shown {
 // Item k of an answer buffer: 0 the call's own answer, 1 to 8 the grants of its pass. A buffer of another length shows nothing, and
 // there is no item above 8.
 pub fn shown_at(answer: &[u8], k: usize) -> Shown
-    ensures { result ≡ shownAt answer.now k }
+    ensures { result ≡ shown_at answer.now k }
 {
     if answer.len() == ANSWER_BYTES {
         if k <= MOST_GRANTS {

@@ -3,15 +3,15 @@
 
 ghost use Rattle.std.specs.Prelude.{false, ◌≡◌, ◌<◌};
 ghost use Rattle.law.specs.Entries.{kind_at, kind_of};
-ghost use Rattle.law.specs.Granting.{toldBy, total as lawTotal};
+ghost use Rattle.law.specs.Granting.{told_by, total as law_total};
 ghost use Rattle.law.specs.GrantLaws.{MayGrant};
-ghost use Rattle.law.specs.DiskType.{diskTable};
-ghost use Rattle.rules.specs.Methods.{isReading};
-ghost use Rattle.rules.specs.Answers.{TakesGrant, grantedOf};
-ghost use Rattle.rules.specs.Disks.{figuresIn, coreIn, diskOf, DiskIs, grantOf};
+ghost use Rattle.law.specs.DiskType.{disk_table};
+ghost use Rattle.rules.specs.Methods.{is_reading};
+ghost use Rattle.rules.specs.Answers.{TakesGrant, granted_of};
+ghost use Rattle.rules.specs.Disks.{figures_in, core_in, disk_of, DiskIs, grant_of};
 ghost use Rattle.part.specs.Layout.{decode};
-ghost use Rattle.part.specs.Held.{held, partFor, HoldsDisk};
-ghost use Rattle.change.specs.Holding.{Holds, NoteFits, with_last, noted, raisedOf};
+ghost use Rattle.part.specs.Held.{held, part_for, HoldsDisk};
+ghost use Rattle.change.specs.Holding.{Holds, NoteFits, with_last, noted, raised_of};
 
 use crate::moves::put_numbers;
 use law::Claim;
@@ -26,10 +26,10 @@ use slots::{put_slot, raise_all};
 // Raises the n active claims for the grant of the write c.
 fn raise_on(s: &mut [u8], n: u32, c: Claim)
     requires holds_disk { HoldsDisk s.old }
-    requires may_grant { MayGrant diskTable (coreIn (decode s.old)) c }
-    requires method_value { isReading (kind_at diskTable c.method) ≡ false }
+    requires may_grant { MayGrant disk_table (core_in (decode s.old)) c }
+    requires method_value { is_reading (kind_at disk_table c.method) ≡ false }
     requires n_value { n ≡ (decode s.old).actives }
-    ensures { Holds s.new (raisedOf (decode s.old) c) }
+    ensures { Holds s.new (raised_of (decode s.old) c) }
 {
     let raise = raise_of(c, used_at(s), promised_at(s), state_at(s));
     raise_all(&mut s[ACTIVE_AT..WAITING_AT], n as usize, c.method, raise);
@@ -64,11 +64,11 @@ fn put_last(s: &mut [u8], n: u32, c: Claim)
 // Grants the claim c, with the sum that it is told and the total that the decision has counted.
 pub fn grant(s: &mut [u8], c: Claim, told: i32, total: u32)
     requires holds_disk { HoldsDisk s.old }
-    requires may_grant { MayGrant diskTable (coreIn (decode s.old)) c }
-    requires told_value { told ≡ toldBy (figuresIn (decode s.old)) (kind_of diskTable c) }
-    requires total_value { total ≡ lawTotal diskTable (coreIn (decode s.old)) c }
+    requires may_grant { MayGrant disk_table (core_in (decode s.old)) c }
+    requires told_value { told ≡ told_by (figures_in (decode s.old)) (kind_of disk_table c) }
+    requires total_value { total ≡ law_total disk_table (core_in (decode s.old)) c }
     ensures holds_disk_2 { HoldsDisk s.new }
-    ensures disk_is { DiskIs (decode s.new) (grantOf (diskOf (decode s.old)) c) }
+    ensures disk_is { DiskIs (decode s.new) (grant_of (disk_of (decode s.old)) c) }
 {
     let n = actives_at(s);
     let mut g = c;
@@ -89,8 +89,8 @@ pub fn grant(s: &mut [u8], c: Claim, told: i32, total: u32)
 pub fn grant_new(s: &mut [u8], second: u32, c: Claim, told: i32, total: u32)
     requires holds_disk { HoldsDisk s.old }
     requires takes_grant { TakesGrant (decode s.old) second c total }
-    requires told_value { told ≡ toldBy (figuresIn (decode s.old)) (kind_of diskTable c) }
-    ensures { s.new ≡ partFor (grantedOf (held s.old) second c) }
+    requires told_value { told ≡ told_by (figures_in (decode s.old)) (kind_of disk_table c) }
+    ensures { s.new ≡ part_for (granted_of (held s.old) second c) }
 {
     put_numbers(s, second, NEXT_AT, c.ticket + 1);
     grant(s, c, told, total);

@@ -1,12 +1,12 @@
 // What ends and what waits: the end of an active claim, of a waiting one, and a new claim that waits.
 
 ghost use Rattle.std.specs.Prelude.{◌≡◌, ◌+◌, ◌≤◌, ◌<◌, length};
-ghost use Rattle.num.specs.Word.{putWord};
-ghost use Rattle.num.specs.Signed.{putSigned};
-ghost use Rattle.rules.specs.Answers.{endedAt, left_at, waitingOf};
+ghost use Rattle.num.specs.Word.{put_word};
+ghost use Rattle.num.specs.Signed.{put_signed};
+ghost use Rattle.rules.specs.Answers.{ended_at, left_at, waiting_of};
 ghost use Rattle.part.specs.Layout.{decode};
-ghost use Rattle.part.specs.Held.{held, partFor, HoldsDisk, HoldsSound};
-ghost use Rattle.change.specs.Holding.{Holds, landOf, LandFits};
+ghost use Rattle.part.specs.Held.{held, part_for, HoldsDisk, HoldsSound};
+ghost use Rattle.change.specs.Holding.{Holds, land_of, LandFits};
 
 use law::Claim;
 use num::bits::share;
@@ -23,7 +23,7 @@ use slots::{queue_in, take_out};
 // Puts a value at an index, and its stamp behind it.
 fn store(s: &mut [u8], at: usize, value: i32, stamp: u32)
     requires { at + 8 ≤ length s.old }
-    ensures { s.new ≡ putWord (putSigned s.old at value) (at + 4) stamp }
+    ensures { s.new ≡ put_word (put_signed s.old at value) (at + 4) stamp }
 {
     put_signed(s, at, value);
     put_word(s, at + STAMP_IN, stamp);
@@ -34,7 +34,7 @@ fn store(s: &mut [u8], at: usize, value: i32, stamp: u32)
 fn land(s: &mut [u8], w: Claim)
     requires holds_disk { HoldsDisk s.old }
     requires land_fits { LandFits (decode s.old) w }
-    ensures { Holds s.new (landOf (decode s.old) w) }
+    ensures { Holds s.new (land_of (decode s.old) w) }
 {
     let set = sets(w.method);
     if share(set, USED) {
@@ -59,7 +59,7 @@ fn land(s: &mut [u8], w: Claim)
 pub(crate) fn put_numbers(s: &mut [u8], second: u32, at: usize, n: u32)
     requires s_len { length s.old ≡ 768 }
     requires at_bound { at ≤ 12 }
-    ensures { s.new ≡ putWord (putWord s.old 0 second) at n }
+    ensures { s.new ≡ put_word (put_word s.old 0 second) at n }
 {
     put_word(s, CLOCK_AT, second);
     put_word(s, at, n);
@@ -69,7 +69,7 @@ pub(crate) fn put_numbers(s: &mut [u8], second: u32, at: usize, n: u32)
 pub fn end(s: &mut [u8], second: u32, at: usize)
     requires holds_sound { HoldsSound s.old }
     requires at_bound { at < (decode s.old).actives }
-    ensures { s.new ≡ partFor (endedAt (held s.old) second at) }
+    ensures { s.new ≡ part_for (ended_at (held s.old) second at) }
 {
     let n = actives_at(s);
     land(s, active_at(s, at));
@@ -81,7 +81,7 @@ pub fn end(s: &mut [u8], second: u32, at: usize)
 pub fn leave(s: &mut [u8], second: u32, at: usize)
     requires holds_disk { HoldsDisk s.old }
     requires at_bound { at < (decode s.old).waitings }
-    ensures { s.new ≡ partFor (left_at (held s.old) second at) }
+    ensures { s.new ≡ part_for (left_at (held s.old) second at) }
 {
     let n = waitings_at(s);
     take_out(&mut s[WAITING_AT..PART_BYTES], n as usize, at);
@@ -93,7 +93,7 @@ pub fn wait(s: &mut [u8], second: u32, c: Claim)
     requires holds_disk { HoldsDisk s.old }
     requires s_bound { (decode s.old).waitings < 8 }
     requires ticket_bound { c.ticket ≤ 999_999 }
-    ensures { s.new ≡ partFor (waitingOf (held s.old) second c) }
+    ensures { s.new ≡ part_for (waiting_of (held s.old) second c) }
 {
     let n = waitings_at(s);
     queue_in(&mut s[WAITING_AT..PART_BYTES], n as usize, c);

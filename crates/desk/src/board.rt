@@ -2,13 +2,13 @@
 // part lent on to be written.
 
 ghost use Rattle.std.specs.Prelude.{◌≡◌, ◌<◌, length};
-ghost use Rattle.law.specs.Calls.{openDisk};
-ghost use Rattle.num.specs.Opened.{setOpen};
+ghost use Rattle.law.specs.Calls.{open_disk};
+ghost use Rattle.num.specs.Opened.{set_open};
 ghost use Rattle.part.specs.Layout.{encode};
-ghost use Rattle.desk.specs.Board.{withPart};
-ghost use Rattle.desk.specs.Record.{nowOf, usedLimit, promisedLimit};
-ghost use Rattle.desk.specs.Step.{opening, onBoard, step_of, stepped, written};
-ghost use Rattle.desk.specs.Counts.{count_of, openOn};
+ghost use Rattle.desk.specs.Board.{with_part};
+ghost use Rattle.desk.specs.Record.{now_of, used_limit, promised_limit};
+ghost use Rattle.desk.specs.Step.{opening, on_board, step_of, stepped, written};
+ghost use Rattle.desk.specs.Counts.{count_of, open_on};
 
 use crate::record::{
     DISK_AT, KIND_AT, NOW_AT, OPEN, PROMISED_LIMIT_AT, USED_LIMIT_AT, well_formed,
@@ -50,7 +50,7 @@ fn on_board(board: &mut [u8], r: &[u8], answer: &mut [u8]) -> u32
     requires board_len { length board.old ≡ 49_216 }
     requires r_len { length r.now ≡ 24 }
     requires answer_len { length answer.old ≡ 144 }
-    ensures { stepped result board.new answer.new ≡ written (onBoard board.old r.now) }
+    ensures { stepped result board.new answer.new ≡ written (on_board board.old r.now) }
 {
     let d = r[DISK_AT] as usize;
     if DISKS <= d {
@@ -77,7 +77,7 @@ fn open_on(board: &mut [u8], d: usize, r: &[u8], answer: &mut [u8]) -> u32
     requires r_len { length r.now ≡ 24 }
     requires answer_len { length answer.old ≡ 144 }
     requires d_bound { d < 64 }
-    ensures { stepped result board.new answer.new ≡ written (opening board.old d (openDisk (nowOf r.now) (usedLimit r.now) (promisedLimit r.now))) }
+    ensures { stepped result board.new answer.new ≡ written (opening board.old d (open_disk (now_of r.now) (used_limit r.now) (promised_limit r.now))) }
 {
     let l0 = word_at(r, USED_LIMIT_AT);
     let l1 = word_at(r, PROMISED_LIMIT_AT);
@@ -93,7 +93,7 @@ fn open_on(board: &mut [u8], d: usize, r: &[u8], answer: &mut [u8]) -> u32
 fn put_open(board: &mut [u8], d: usize, disk: Disk)
     requires board_len { length board.old ≡ 49_216 }
     requires d_bound { d < 64 }
-    ensures { board.new ≡ setOpen (withPart board.old d (encode disk)) d }
+    ensures { board.new ≡ set_open (with_part board.old d (encode disk)) d }
 {
     let a = HEAD_BYTES + PART_BYTES * d;
     let e = a + PART_BYTES;
@@ -119,7 +119,7 @@ pub fn open_disks(board: &[u8]) -> Count
 
 // Whether a disk is open: none is on a board of another length, and there is none above 63.
 pub fn open_at(board: &[u8], d: usize) -> bool
-    ensures { result ≡ openOn board.now d }
+    ensures { result ≡ open_on board.now d }
 {
     if board.len() != BOARD_BYTES {
         return false;

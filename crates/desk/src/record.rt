@@ -2,7 +2,7 @@
 
 ghost use Rattle.std.specs.Prelude.{◌≡◌, length};
 ghost use Rattle.law.specs.Types.{claim_of};
-ghost use Rattle.desk.specs.Record.{wellFormed, kindFits, askedIn, laidOut};
+ghost use Rattle.desk.specs.Record.{well_formed, kind_fits, asked_in, laid_out};
 
 use law::Claim;
 use law::limits::MOST_FLAG;
@@ -54,7 +54,7 @@ const RELEASE: u8 = 3;
 
 // Whether a record is well formed: no refusal 10.
 pub(crate) fn well_formed(r: &[u8]) -> bool
-    ensures { result ≡ wellFormed r.now }
+    ensures { result ≡ well_formed r.now }
 {
     if r.len() != RECORD_BYTES {
         return false;
@@ -77,7 +77,7 @@ pub(crate) fn well_formed(r: &[u8]) -> bool
 // Whether the kind is known, and the bytes that it does not use are zero.
 fn kind_fits(r: &[u8], kind: u8) -> bool
     requires { length r.now ≡ 24 }
-    ensures { result ≡ kindFits r.now kind }
+    ensures { result ≡ kind_fits r.now kind }
 {
     if kind == OPEN {
         return both(
@@ -100,7 +100,7 @@ fn kind_fits(r: &[u8], kind: u8) -> bool
 // The claim that a record asks for, with the ticket that it would take.
 pub(crate) fn asked_in(r: &[u8], ticket: u32) -> Claim
     requires { length r.now ≡ 24 }
-    ensures { result ≡ claim_of (askedIn r.now) ticket }
+    ensures { result ≡ claim_of (asked_in r.now) ticket }
 {
     Claim {
         ticket,
@@ -117,7 +117,7 @@ pub(crate) fn asked_in(r: &[u8], ticket: u32) -> Claim
 
 // A record with these fields: the bytes in their order, then the words at 8, 12, 16 and 20. Whether it is well formed is another matter.
 pub fn laid_out(kind: u8, disk: u8, method: u8, priority: u8, flag: u8, words: [u32; 4]) -> [u8; 24]
-    ensures { result ≡ laidOut kind disk method priority flag words }
+    ensures { result ≡ laid_out kind disk method priority flag words }
 {
     let mut r = [0; 24];
     r[0] = MARK;

@@ -2,15 +2,15 @@
 // writes nothing to the part.
 
 ghost use Rattle.std.specs.Prelude.{◌≡◌, [], length};
-ghost use Rattle.law.specs.Calls.{claim as lawClaim, release as lawRelease};
-ghost use Rattle.law.specs.DiskType.{diskTable};
-ghost use Rattle.rules.specs.Answers.{NewOn, requestOf};
-ghost use Rattle.rules.specs.Totals.{totalsOf};
+ghost use Rattle.law.specs.Calls.{claim as law_claim, release as law_release};
+ghost use Rattle.law.specs.DiskType.{disk_table};
+ghost use Rattle.rules.specs.Answers.{NewOn, request_of};
+ghost use Rattle.rules.specs.Totals.{totals_of};
 ghost use Rattle.part.specs.Held.{held, HoldsSound};
 ghost use Rattle.answer.specs.declared.Answer.TheVariants.{Refused};
-ghost use Rattle.answer.specs.Answers.{number_of, answerBytes};
+ghost use Rattle.answer.specs.Answers.{number_of, answer_bytes};
 ghost use Rattle.desk.specs.Record.{call_of};
-ghost use Rattle.desk.specs.Step.{settled, released, serveOf, stepped, written};
+ghost use Rattle.desk.specs.Step.{settled, released, serve_of, stepped, written};
 
 use crate::find::{find_active, find_waiting};
 use crate::record::{CLAIM, KIND_AT, NOW_AT, TICKET_AT, asked_in};
@@ -30,7 +30,7 @@ use sound::is_sound;
 pub(crate) fn refuse(answer: &mut [u8], r: Refusal) -> u32
     requires { length answer.old ≡ 144 }
     ensures value { result ≡ number_of r }
-    ensures answer_after { answer.new ≡ answerBytes (Refused r) [] }
+    ensures answer_after { answer.new ≡ answer_bytes (Refused r) [] }
 {
     put_answer(answer, Answer::Refused(r));
     number(r)
@@ -42,8 +42,8 @@ fn serve_claim(part: &mut [u8], c: Claim, second: u32, t: Totals, answer: &mut [
     requires holds_sound { HoldsSound part.old }
     requires new_on { NewOn (held part.old) c }
     requires answer_len { length answer.old ≡ 144 }
-    requires t_value { t ≡ totalsOf (held part.old).core.active }
-    ensures { stepped result part.new answer.new ≡ written (settled part.old (lawClaim diskTable (held part.old) (requestOf second c))) }
+    requires t_value { t ≡ totals_of (held part.old).core.active }
+    ensures { stepped result part.new answer.new ≡ written (settled part.old (law_claim disk_table (held part.old) (request_of second c))) }
 {
     let a = judged(part, c, second, t);
     put_answer(answer, a);
@@ -70,7 +70,7 @@ fn settle(part: &mut [u8], ticket: u32, answer: &mut [u8]) -> u32
 fn serve_release(part: &mut [u8], second: u32, ticket: u32, answer: &mut [u8]) -> u32
     requires holds_sound { HoldsSound part.old }
     requires answer_len { length answer.old ≡ 144 }
-    ensures { stepped result part.new answer.new ≡ written (settled part.old (lawRelease diskTable (held part.old) second ticket)) }
+    ensures { stepped result part.new answer.new ≡ written (settled part.old (law_release disk_table (held part.old) second ticket)) }
 {
     if second < clock_at(part) {
         return refuse(answer, Refusal::Clock);
@@ -93,7 +93,7 @@ pub(crate) fn serve(part: &mut [u8], r: &[u8], answer: &mut [u8]) -> u32
     requires part_len { length part.old ≡ 768 }
     requires r_len { length r.now ≡ 24 }
     requires answer_len { length answer.old ≡ 144 }
-    ensures { stepped result part.new answer.new ≡ written (serveOf part.old (call_of r.now)) }
+    ensures { stepped result part.new answer.new ≡ written (serve_of part.old (call_of r.now)) }
 {
     if !decodes(part) {
         return refuse(answer, Refusal::Unsound);

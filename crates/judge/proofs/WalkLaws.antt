@@ -12,18 +12,18 @@ use Rattle.num.specs.Metric.{dist}
 use Rattle.law.specs.declared.Claim.{Claim}
 use Rattle.law.specs.declared.Entry.{Entry}
 use Rattle.law.specs.declared.Entry.TheVariants.{A, N, D, G}
-use Rattle.law.specs.Base.{allTrue, everyOf, any_of, sum_of, All}
+use Rattle.law.specs.Base.{all_true, every_of, any_of, sum_of, All}
 use Rattle.law.specs.Types.{Kind, sets, adds, reads, Figures}
-use Rattle.law.specs.Entries.{kind_at, kind_of, entryBy, entry, isAlways, isNever}
+use Rattle.law.specs.Entries.{kind_at, kind_of, entry_by, entry, is_always, is_never}
 use Rattle.law.specs.Lists.{all_say, never_true, sum-zero}
-use Rattle.law.specs.Granting.{limitBy, gapBy, costBy, raisesBy, start, cost, stays, total, lockStep}
-use Rattle.law.specs.DiskType.{diskTable}
-use Rattle.rules.specs.Rows.{noClaim}
-use Rattle.rules.specs.Methods.{isReading}
-use Rattle.rules.specs.Totals.{totalsOf, haveSay}
-use Rattle.rules.specs.Pairs.{core_of, letsBy, costOn, costBetween, raiseOf, barsBy}
-use Rattle.rules.proofs.TotalsLaws.{all-always}
-use Rattle.judge.specs.Decisions.{letsOf, costOf, barsAt}
+use Rattle.law.specs.Granting.{limit_by, gap_by, cost_by, raises_by, start, cost, stays, total, lock_step}
+use Rattle.law.specs.DiskType.{disk_table}
+use Rattle.rules.specs.Rows.{no_claim}
+use Rattle.rules.specs.Methods.{is_reading}
+use Rattle.rules.specs.Totals.{totals_of, have_say}
+use Rattle.rules.specs.Pairs.{core_of, lets_by, cost_on, cost_between, raise_of, bars_by}
+use Rattle.rules.proofs.TotalsLaws.{all_always}
+use Rattle.judge.specs.Decisions.{lets_of, cost_of, bars_at}
 
 -- ---- tests and sums of two functions that agree
 
@@ -37,10 +37,10 @@ module _ {X : Type 0} where
   any_same p q e (x ∷ xs) = rw (e x, any_same p q e xs)
 
   -- A joint test of every element is the two tests of every element.
-  every-both : (p q r : X → Bool) → ((x : X) → r x ≡ (p x && q x)) → (xs : List X) →
-      everyOf r xs ≡ (everyOf p xs && everyOf q xs)
-  every-both p q r e [] = refl
-  every-both p q r e (x ∷ xs) = rw (e x, every-both p q r e xs) (four (p x) (q x) (everyOf p xs) (everyOf q xs))
+  every_both : (p q r : X → Bool) → ((x : X) → r x ≡ (p x && q x)) → (xs : List X) →
+      every_of r xs ≡ (every_of p xs && every_of q xs)
+  every_both p q r e [] = refl
+  every_both p q r e (x ∷ xs) = rw (e x, every_both p q r e xs) (four (p x) (q x) (every_of p xs) (every_of q xs))
     where
       four : (a b c d : Bool) → ((a && b) && (c && d)) ≡ ((a && c) && (b && d))
       four false b c d = refl
@@ -50,139 +50,139 @@ module _ {X : Type 0} where
 
 -- ---- the lock step
 
-lets_by : (e : Entry) (k : Kind) (amount most raise : ℕ) →
-    letsBy e (isReading k) amount most raise
-    ≡ (not (isNever e) && cond (raisesBy e k) (leb (amount + cond (raisesBy e k) raise 0) most) true)
-lets_by A k amount most raise = refl
-lets_by N k amount most raise = refl
-lets_by D k amount most raise = refl
-lets_by G (sets a) amount most raise = refl
-lets_by G (adds a) amount most raise = refl
-lets_by G (reads m) amount most raise = refl
+lets_by_lem : (e : Entry) (k : Kind) (amount most raise : ℕ) →
+    lets_by e (is_reading k) amount most raise
+    ≡ (not (is_never e) && cond (raises_by e k) (leb (amount + cond (raises_by e k) raise 0) most) true)
+lets_by_lem A k amount most raise = refl
+lets_by_lem N k amount most raise = refl
+lets_by_lem D k amount most raise = refl
+lets_by_lem G (sets a) amount most raise = refl
+lets_by_lem G (adds a) amount most raise = refl
+lets_by_lem G (reads m) amount most raise = refl
 
-cost-by : (e : Entry) (k : Kind) (d g : ℕ) → costOn e (isReading k) d g ≡ costBy e k d g
-cost-by A k d g = refl
-cost-by N k d g = refl
-cost-by D k d g = refl
-cost-by G (sets a) d g = refl
-cost-by G (adds a) d g = refl
-cost-by G (reads m) d g = refl
+cost_by_lem : (e : Entry) (k : Kind) (d g : ℕ) → cost_on e (is_reading k) d g ≡ cost_by e k d g
+cost_by_lem A k d g = refl
+cost_by_lem N k d g = refl
+cost_by_lem D k d g = refl
+cost_by_lem G (sets a) d g = refl
+cost_by_lem G (adds a) d g = refl
+cost_by_lem G (reads m) d g = refl
 
 -- The test of the total stands between the two tests of the active claims, and comes last in the walk.
-in-turn : (a t b : Bool) → ((a && b) && t) ≡ allTrue (a ∷ t ∷ b ∷ [])
-in-turn false t b = refl
-in-turn true false false = refl
-in-turn true false true = refl
-in-turn true true false = refl
-in-turn true true true = refl
+in_turn : (a t b : Bool) → ((a && b) && t) ≡ all_true (a ∷ t ∷ b ∷ [])
+in_turn false t b = refl
+in_turn true false false = refl
+in_turn true false true = refl
+in_turn true true false = refl
+in_turn true true true = refl
 
 module _ (f : Figures) (c : Claim) (ws : List Claim) where
-  cost-is : (w : Claim) → costOf f c w ≡ cost diskTable (core_of f 0 ws) c w
-  unfolding costOf
-  cost-is w =
-      cost-by (entry diskTable w c) (kind_of diskTable c) (dist c.value w.value) (gapBy f (kind_of diskTable w) w.value)
+  cost_is : (w : Claim) → cost_of f c w ≡ cost disk_table (core_of f 0 ws) c w
+  unfolding cost_of
+  cost_is w =
+      cost_by_lem (entry disk_table w c) (kind_of disk_table c) (dist c.value w.value) (gap_by f (kind_of disk_table w) w.value)
 
-  lets-is : (w : Claim) → letsOf f c w ≡ (not (isNever (entry diskTable w c)) && stays diskTable (core_of f 0 ws) c w)
-  unfolding letsOf
-  lets-is w =
-      lets_by (entry diskTable w c) (kind_of diskTable c) w.amount w.error (c.error + gapBy f (kind_of diskTable c) c.value)
+  lets_is : (w : Claim) → lets_of f c w ≡ (not (is_never (entry disk_table w c)) && stays disk_table (core_of f 0 ws) c w)
+  unfolding lets_of
+  lets_is w =
+      lets_by_lem (entry disk_table w c) (kind_of disk_table c) w.amount w.error (c.error + gap_by f (kind_of disk_table c) c.value)
 
   -- The starting amount and what each active claim adds.
-  pub total-is : start diskTable (core_of f 0 ws) c + sum_of (costOf f c) ws ≡ total diskTable (core_of f 0 ws) c
+  pub total_is : start disk_table (core_of f 0 ws) c + sum_of (cost_of f c) ws ≡ total disk_table (core_of f 0 ws) c
   unfolding total
-  total-is = rw (sum_same (costOf f c) (cost diskTable (core_of f 0 ws) c) cost-is ws)
+  total_is = rw (sum_same (cost_of f c) (cost disk_table (core_of f 0 ws) c) cost_is ws)
 
-  abbrev within-limit : Bool
-  within-limit = leb (total diskTable (core_of f 0 ws) c) (limitBy f (kind_of diskTable c) c.error)
+  abbrev within_limit : Bool
+  within_limit = leb (total disk_table (core_of f 0 ws) c) (limit_by f (kind_of disk_table c) c.error)
 
-  pub lock-is : ((everyOf (λ w. not (isNever (entry diskTable w c))) ws && everyOf (stays diskTable (core_of f 0 ws) c) ws)
-      && within-limit)
-      ≡ lockStep diskTable (core_of f 0 ws) c
-  unfolding lockStep
-  lock-is =
-      in-turn (everyOf (λ w. not (isNever (entry diskTable w c))) ws) within-limit
-      (everyOf (stays diskTable (core_of f 0 ws) c) ws)
+  pub lock_is : ((every_of (λ w. not (is_never (entry disk_table w c))) ws && every_of (stays disk_table (core_of f 0 ws) c) ws)
+      && within_limit)
+      ≡ lock_step disk_table (core_of f 0 ws) c
+  unfolding lock_step
+  lock_is =
+      in_turn (every_of (λ w. not (is_never (entry disk_table w c))) ws) within_limit
+      (every_of (stays disk_table (core_of f 0 ws) c) ws)
 
-  every-is : everyOf (letsOf f c) ws
-      ≡ (everyOf (λ w. not (isNever (entry diskTable w c))) ws && everyOf (stays diskTable (core_of f 0 ws) c) ws)
-  every-is = every-both (λ w. not (isNever (entry diskTable w c))) (stays diskTable (core_of f 0 ws) c) (letsOf f c) lets-is ws
+  every_is : every_of (lets_of f c) ws
+      ≡ (every_of (λ w. not (is_never (entry disk_table w c))) ws && every_of (stays disk_table (core_of f 0 ws) c) ws)
+  every_is = every_both (λ w. not (is_never (entry disk_table w c))) (stays disk_table (core_of f 0 ws) c) (lets_of f c) lets_is ws
 
   -- One active claim stops it.
-  pub lock-not : false ≡ everyOf (letsOf f c) ws → false ≡ lockStep diskTable (core_of f 0 ws) c
-  lock-not h = ap (λ (b : Bool). b && within-limit) (h ∙ every-is) ∙ lock-is
+  pub lock_not : false ≡ every_of (lets_of f c) ws → false ≡ lock_step disk_table (core_of f 0 ws) c
+  lock_not h = ap (λ (b : Bool). b && within_limit) (h ∙ every_is) ∙ lock_is
 
   -- None does: then the total decides.
-  pub lock-all : true ≡ everyOf (letsOf f c) ws →
-      leb (total diskTable (core_of f 0 ws) c) (limitBy f (kind_of diskTable c) c.error) ≡ lockStep diskTable (core_of f 0 ws) c
-  lock-all h = ap (λ (b : Bool). b && within-limit) (h ∙ every-is) ∙ lock-is
+  pub lock_all : true ≡ every_of (lets_of f c) ws →
+      leb (total disk_table (core_of f 0 ws) c) (limit_by f (kind_of disk_table c) c.error) ≡ lock_step disk_table (core_of f 0 ws) c
+  lock_all h = ap (λ (b : Bool). b && within_limit) (h ∙ every_is) ∙ lock_is
 
 -- What the leaves say of one active claim is the law's test and cost of it.
-module _ (f : Figures) (c w : Claim) {e : Entry} {reading : Bool} (h : e ≡ entry diskTable w c)
-    (r : reading ≡ isReading (kind_of diskTable c)) where
-  pub lets_at : {raise : ℕ} {b : Bool} → raise ≡ c.error + gapBy f (kind_of diskTable c) c.value →
-      b ≡ letsBy e reading w.amount w.error raise → b ≡ letsOf f c w
-  unfolding letsOf
+module _ (f : Figures) (c w : Claim) {e : Entry} {reading : Bool} (h : e ≡ entry disk_table w c)
+    (r : reading ≡ is_reading (kind_of disk_table c)) where
+  pub lets_at : {raise : ℕ} {b : Bool} → raise ≡ c.error + gap_by f (kind_of disk_table c) c.value →
+      b ≡ lets_by e reading w.amount w.error raise → b ≡ lets_of f c w
+  unfolding lets_of
   lets_at g b = rw (h, r, g) at b
 
-  pub cost-at : {n : ℕ} → n ≡ costOn e reading (dist c.value w.value) (gapBy f (kind_of diskTable w) w.value) → n ≡ costOf f c w
-  unfolding costOf
-  cost-at n = rw (h, r) at n
+  pub cost_at : {n : ℕ} → n ≡ cost_on e reading (dist c.value w.value) (gap_by f (kind_of disk_table w) w.value) → n ≡ cost_of f c w
+  unfolding cost_of
+  cost_at n = rw (h, r) at n
 
 -- ---- a walk of the first n of an array
 
 module _ (a : List Claim) (n : ℕ) (fits : n ≤ length a) (p : Claim → Bool) (i : ℕ) where
-  first-length : length (take n a) ≡ n
-  first-length = length-take-le n a fits
+  first_length : length (take n a) ≡ n
+  first_length = length-take-le n a fits
 
-  first-left : i < n → drop i (take n a) ≡ get_or a i noClaim ∷ drop (i + 1) (take n a)
-  first-left h = drop-cons (take n a) i noClaim (omega (arith, first-length)) ∙ rw (get_or-take n a i noClaim h, add-one i)
+  first_left : i < n → drop i (take n a) ≡ get_or a i no_claim ∷ drop (i + 1) (take n a)
+  first_left h = drop-cons (take n a) i no_claim (omega (arith, first_length)) ∙ rw (get_or-take n a i no_claim h, add-one i)
 
-  pub first-any-on : i < n → p (get_or a i noClaim) ≡ false → any_of p (drop (i + 1) (take n a)) ≡ any_of p (drop i (take n a))
-  first-any-on h e = rw (first-left h, e)
+  pub first_any_on : i < n → p (get_or a i no_claim) ≡ false → any_of p (drop (i + 1) (take n a)) ≡ any_of p (drop i (take n a))
+  first_any_on h e = rw (first_left h, e)
 
-  pub first-any-here : i < n → p (get_or a i noClaim) ≡ true → true ≡ any_of p (drop i (take n a))
-  first-any-here h e = rw (first-left h, e)
+  pub first_any_here : i < n → p (get_or a i no_claim) ≡ true → true ≡ any_of p (drop i (take n a))
+  first_any_here h e = rw (first_left h, e)
 
-  pub first-any-end : n ≤ i → false ≡ any_of p (drop i (take n a))
-  first-any-end h = rw (drop_of_length-le (take n a) {i = i} (omega (arith, first-length)))
+  pub first_any_end : n ≤ i → false ≡ any_of p (drop i (take n a))
+  first_any_end h = rw (drop_of_length-le (take n a) {i = i} (omega (arith, first_length)))
 
 -- What the leaf says of one waiting claim.
-pub bars-at : (f : Figures) (now sum priority m : ℕ) (w : Claim) {e : Entry} {b : Bool} →
-    e ≡ entryBy (kind_at diskTable w.method) (kind_at diskTable m) →
-    b ≡ barsBy f now sum priority e w → b ≡ barsAt f now sum priority m w
-unfolding barsAt
-bars-at f now sum priority m w h b = rw h at b
+pub bars_at_lem : (f : Figures) (now sum priority m : ℕ) (w : Claim) {e : Entry} {b : Bool} →
+    e ≡ entry_by (kind_at disk_table w.method) (kind_at disk_table m) →
+    b ≡ bars_by f now sum priority e w → b ≡ bars_at f now sum priority m w
+unfolding bars_at
+bars_at_lem f now sum priority m w h b = rw h at b
 
 -- Claims whose entry with c is A let it pass, and add nothing.
 module _ (f : Figures) (c : Claim) where
-  lets-always : (w : Claim) → isAlways (entry diskTable w c) ≡ true → letsOf f c w ≡ true
-  unfolding letsOf
-  lets-always w h = by-entry (entry diskTable w c) h
+  lets_always : (w : Claim) → is_always (entry disk_table w c) ≡ true → lets_of f c w ≡ true
+  unfolding lets_of
+  lets_always w h = by_entry (entry disk_table w c) h
     where
-      by-entry : (e : Entry) → isAlways e ≡ true →
-          letsBy e (isReading (kind_of diskTable c)) w.amount w.error (raiseOf f c) ≡ true
-      by-entry A h = refl
-      by-entry N h = h
-      by-entry D h = refl
-      by-entry G h = never_true (letsBy G (isReading (kind_of diskTable c)) w.amount w.error (raiseOf f c) ≡ true) h
+      by_entry : (e : Entry) → is_always e ≡ true →
+          lets_by e (is_reading (kind_of disk_table c)) w.amount w.error (raise_of f c) ≡ true
+      by_entry A h = refl
+      by_entry N h = h
+      by_entry D h = refl
+      by_entry G h = never_true (lets_by G (is_reading (kind_of disk_table c)) w.amount w.error (raise_of f c) ≡ true) h
 
-  cost-always : (w : Claim) → isAlways (entry diskTable w c) ≡ true → costOf f c w ≡ 0
-  unfolding costOf
-  cost-always w h = by-entry (entry diskTable w c) h
+  cost_always : (w : Claim) → is_always (entry disk_table w c) ≡ true → cost_of f c w ≡ 0
+  unfolding cost_of
+  cost_always w h = by_entry (entry disk_table w c) h
     where
-      by-entry : (e : Entry) → isAlways e ≡ true → costBetween f e (isReading (kind_of diskTable c)) c w ≡ 0
-      by-entry A h = refl
-      by-entry N h = refl
-      by-entry D h = never_true (costBetween f D (isReading (kind_of diskTable c)) c w ≡ 0) h
-      by-entry G h = never_true (costBetween f G (isReading (kind_of diskTable c)) c w ≡ 0) h
+      by_entry : (e : Entry) → is_always e ≡ true → cost_between f e (is_reading (kind_of disk_table c)) c w ≡ 0
+      by_entry A h = refl
+      by_entry N h = refl
+      by_entry D h = never_true (cost_between f D (is_reading (kind_of disk_table c)) c w ≡ 0) h
+      by_entry G h = never_true (cost_between f G (is_reading (kind_of disk_table c)) c w ≡ 0) h
 
-  module _ (ws : List Claim) (e : haveSay (totalsOf ws) c.method ≡ false) where
-    pub all-let : true ≡ everyOf (letsOf f c) ws
-    all-let = every-let ws (all-always c ws e)
+  module _ (ws : List Claim) (e : have_say (totals_of ws) c.method ≡ false) where
+    pub all_let : true ≡ every_of (lets_of f c) ws
+    all_let = every_let ws (all_always c ws e)
       where
-        every-let : (vs : List Claim) → All (λ w. isAlways (entry diskTable w c) ≡ true) vs → true ≡ everyOf (letsOf f c) vs
-        every-let [] h = refl
-        every-let (v ∷ vs) h = rw (lets-always v h.0) (every-let vs h.1)
+        every_let : (vs : List Claim) → All (λ w. is_always (entry disk_table w c) ≡ true) vs → true ≡ every_of (lets_of f c) vs
+        every_let [] h = refl
+        every_let (v ∷ vs) h = rw (lets_always v h.0) (every_let vs h.1)
 
-    pub none-cost : 0 ≡ sum_of (costOf f c) ws
-    none-cost = sym (sum-zero (costOf f c) ws (all_say (λ w. isAlways (entry diskTable w c) ≡ true) (λ w. costOf f c w ≡ 0) cost-always ws (all-always c ws e)))
+    pub none_cost : 0 ≡ sum_of (cost_of f c) ws
+    none_cost = sym (sum-zero (cost_of f c) ws (all_say (λ w. is_always (entry disk_table w c) ≡ true) (λ w. cost_of f c w ≡ 0) cost_always ws (all_always c ws e)))

@@ -2,13 +2,13 @@
 // in its part; the totals of the active ones are handed in.
 
 ghost use Rattle.std.specs.Prelude.{true, ◌≡◌, ◌≤◌, take};
-ghost use Rattle.law.specs.Base.{any_of, everyOf, sum_of};
+ghost use Rattle.law.specs.Base.{any_of, every_of, sum_of};
 ghost use Rattle.rules.specs.Pairs.{core_of};
-ghost use Rattle.rules.specs.Totals.{totalsOf};
-ghost use Rattle.rules.specs.Disks.{figuresIn};
+ghost use Rattle.rules.specs.Totals.{totals_of};
+ghost use Rattle.rules.specs.Disks.{figures_in};
 ghost use Rattle.part.specs.Layout.{decode};
 ghost use Rattle.part.specs.Held.{HoldsDisk};
-ghost use Rattle.judge.specs.Decisions.{letsOf, costOf, barsOf, activesIn, DecidedIs};
+ghost use Rattle.judge.specs.Decisions.{lets_of, cost_of, bars_of, actives_in, DecidedIs};
 
 use law::Claim;
 use law::limits::PLACES;
@@ -21,7 +21,7 @@ use rules::totals::{Totals, have_say, no_totals, with_claim};
 // The totals of the active claims.
 pub fn totals_at(s: &[u8]) -> Totals
     requires { HoldsDisk s.now }
-    ensures { result ≡ totalsOf (activesIn (decode s.now)) }
+    ensures { result ≡ totals_of (actives_in (decode s.now)) }
 {
     let n = actives_at(s) as usize;
     let mut t = no_totals();
@@ -39,7 +39,7 @@ fn barred(s: &[u8], ahead: usize, c: Claim, second: u32, adds: u64) -> bool
     requires holds_disk { HoldsDisk s.now }
     requires ahead_bound { ahead ≤ 8 }
     requires adds_bound { adds ≤ 17179869184 }
-    ensures { result ≡ any_of (barsOf (figuresIn (decode s.now)) second adds c) (take ahead (decode s.now).waiting) }
+    ensures { result ≡ any_of (bars_of (figures_in (decode s.now)) second adds c) (take ahead (decode s.now).waiting) }
 {
     if ahead == 0 {
         return false;
@@ -74,9 +74,9 @@ pub struct Locked {
 // The table is looked up for c with each active claim, unless their masks say that every entry is A.
 fn lock_step(s: &[u8], c: Claim, t: Totals) -> Locked
     requires holds_disk { HoldsDisk s.now }
-    requires t_value { t ≡ totalsOf (activesIn (decode s.now)) }
-    ensures ok_value { result.ok ≡ everyOf (letsOf (figuresIn (decode s.now)) c) (activesIn (decode s.now)) }
-    ensures sum_value { result.ok ≡ true → result.sum ≡ sum_of (costOf (figuresIn (decode s.now)) c) (activesIn (decode s.now)) }
+    requires t_value { t ≡ totals_of (actives_in (decode s.now)) }
+    ensures ok_value { result.ok ≡ every_of (lets_of (figures_in (decode s.now)) c) (actives_in (decode s.now)) }
+    ensures sum_value { result.ok ≡ true → result.sum ≡ sum_of (cost_of (figures_in (decode s.now)) c) (actives_in (decode s.now)) }
     ensures sum_bound { result.sum ≤ 34359738360 }
 {
     if !have_say(t, c.method) {
@@ -121,8 +121,8 @@ pub struct Decided {
 pub fn decide(s: &[u8], ahead: usize, c: Claim, second: u32, t: Totals) -> Decided
     requires holds_disk { HoldsDisk s.now }
     requires ahead_bound { ahead ≤ 8 }
-    requires t_value { t ≡ totalsOf (activesIn (decode s.now)) }
-    ensures { DecidedIs result.ok result.total (core_of (figuresIn (decode s.now)) second (activesIn (decode s.now))) (take ahead (decode s.now).waiting) c }
+    requires t_value { t ≡ totals_of (actives_in (decode s.now)) }
+    ensures { DecidedIs result.ok result.total (core_of (figures_in (decode s.now)) second (actives_in (decode s.now))) (take ahead (decode s.now).waiting) c }
 {
     let none = Decided {
         ok: false,

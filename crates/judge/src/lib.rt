@@ -1,10 +1,10 @@
 // A claim judged on the lent part of its disk: the figures and the claims are read where they stand.
 
 ghost use Rattle.std.specs.Prelude.{◌≡◌};
-ghost use Rattle.law.specs.Calls.{claim as lawClaim};
-ghost use Rattle.law.specs.DiskType.{diskTable};
-ghost use Rattle.rules.specs.Answers.{answerBy, NewOn, requestOf};
-ghost use Rattle.rules.specs.Totals.{totalsOf};
+ghost use Rattle.law.specs.Calls.{claim as law_claim};
+ghost use Rattle.law.specs.DiskType.{disk_table};
+ghost use Rattle.rules.specs.Answers.{answer_by, NewOn, request_of};
+ghost use Rattle.rules.specs.Totals.{totals_of};
 ghost use Rattle.part.specs.Held.{held, HoldsSound};
 
 use crate::decision::decide;
@@ -23,8 +23,8 @@ pub mod decision;
 pub fn judged(s: &[u8], c: Claim, second: u32, t: Totals) -> Answer
     requires holds_sound { HoldsSound s.now }
     requires new_on { NewOn (held s.now) c }
-    requires t_value { t ≡ totalsOf (held s.now).core.active }
-    ensures { result ≡ answerBy (lawClaim diskTable (held s.now) (requestOf second c)) }
+    requires t_value { t ≡ totals_of (held s.now).core.active }
+    ensures { result ≡ answer_by (law_claim disk_table (held s.now) (request_of second c)) }
 {
     let used = used_at(s);
     let promised = promised_at(s);

@@ -2,11 +2,11 @@
 -- and told sums being in range. Each is shown once here, for sets, adds and readings alike.
 use Rattle.std.specs.Prelude.{ℕ, ◌+◌, ◌≤◌, Bool, true, false, cond, not, ◌&&◌, ◌≡◌, refl, ℤ, pos, negsuc, ◌+ℤ◌}
 use Rattle.std.proofs.Common.{arith}
-use Rattle.num.specs.Metric.{size, size-add}
+use Rattle.num.specs.Metric.{size, size_add}
 use Rattle.law.specs.declared.Attr.{Attr}
 use Rattle.law.specs.Lists.{never_true}
-use Rattle.law.specs.Types.{mostValue, mostError, mostState, Attribute, a0, a1, a2, metric, same, within, Kind, sets, adds, reads, properKind, Figures, attr, putAttr}
-use Rattle.law.specs.Granting.{withAmount, noteBy}
+use Rattle.law.specs.Types.{most_value, most_error, most_state, Attribute, a0, a1, a2, metric, same, within, Kind, sets, adds, reads, proper_kind, Figures, attr, put_attr}
+use Rattle.law.specs.Granting.{with_amount, note_by}
 use Rattle.law.specs.Sound.{SumFits}
 use Rattle.law.specs.Fields.{IsCode, ValueFits}
 use Rattle.law.specs.Readings.{present}
@@ -15,7 +15,7 @@ use Rattle.law.specs.Readings.{present}
 
 -- If P holds of b with its new content x, and of every attribute with its old content, it holds of all after the replacement.
 pub put_all : (P : Attribute → Attr → Type 0) (f : Figures) (b : Attribute) (x : Attr) → P b x →
-    ((a : Attribute) → P a (attr f a)) → (a : Attribute) → P a (attr (putAttr f b x) a)
+    ((a : Attribute) → P a (attr f a)) → (a : Attribute) → P a (attr (put_attr f b x) a)
 put_all P f a0 x new others a0 = new
 put_all P f a0 x new others a1 = others a1
 put_all P f a0 x new others a2 = others a2
@@ -27,42 +27,42 @@ put_all P f a2 x new others a1 = others a1
 put_all P f a2 x new others a2 = new
 
 -- Case distinction on `same a b`: P of b with true, and of every attribute with false.
-pub same-all : (P : Attribute → Bool → Type 0) (b : Attribute) → P b true → ((a : Attribute) → P a false) →
+pub same_all : (P : Attribute → Bool → Type 0) (b : Attribute) → P b true → ((a : Attribute) → P a false) →
     (a : Attribute) → P a (same a b)
-same-all P a0 this others a0 = this
-same-all P a0 this others a1 = others a1
-same-all P a0 this others a2 = others a2
-same-all P a1 this others a0 = others a0
-same-all P a1 this others a1 = this
-same-all P a1 this others a2 = others a2
-same-all P a2 this others a0 = others a0
-same-all P a2 this others a1 = others a1
-same-all P a2 this others a2 = this
+same_all P a0 this others a0 = this
+same_all P a0 this others a1 = others a1
+same_all P a0 this others a2 = others a2
+same_all P a1 this others a0 = others a0
+same_all P a1 this others a1 = this
+same_all P a1 this others a2 = others a2
+same_all P a2 this others a0 = others a0
+same_all P a2 this others a1 = others a1
+same_all P a2 this others a2 = this
 
 pub same_self : (a : Attribute) → same a a ≡ true
 same_self a0 = refl
 same_self a1 = refl
 same_self a2 = refl
 
-pub same-turned : (a b : Attribute) → same a b ≡ same b a
-same-turned a0 a0 = refl
-same-turned a0 a1 = refl
-same-turned a0 a2 = refl
-same-turned a1 a0 = refl
-same-turned a1 a1 = refl
-same-turned a1 a2 = refl
-same-turned a2 a0 = refl
-same-turned a2 a1 = refl
-same-turned a2 a2 = refl
+pub same_turned : (a b : Attribute) → same a b ≡ same b a
+same_turned a0 a0 = refl
+same_turned a0 a1 = refl
+same_turned a0 a2 = refl
+same_turned a1 a0 = refl
+same_turned a1 a1 = refl
+same_turned a1 a2 = refl
+same_turned a2 a0 = refl
+same_turned a2 a1 = refl
+same_turned a2 a2 = refl
 
 -- ---- what a grant notes
 
 -- Noting a total changes no field but the amount.
-pub note-same : {X : Type 0} (field : Attr → X) → ((x : Attr) (n : ℕ) → field (withAmount x n) ≡ field x) →
-    (f : Figures) (k : Kind) (n : ℕ) (a : Attribute) → field (attr (noteBy f k n) a) ≡ field (attr f a)
-note-same field kept f (sets b) n = put_all (λ a x. field x ≡ field (attr f a)) f b (withAmount (attr f b) n) (kept (attr f b) n) (λ a. refl)
-note-same field kept f (adds b) n = put_all (λ a x. field x ≡ field (attr f a)) f b (withAmount (attr f b) n) (kept (attr f b) n) (λ a. refl)
-note-same field kept f (reads m) n = λ a. refl
+pub note_same : {X : Type 0} (field : Attr → X) → ((x : Attr) (n : ℕ) → field (with_amount x n) ≡ field x) →
+    (f : Figures) (k : Kind) (n : ℕ) (a : Attribute) → field (attr (note_by f k n) a) ≡ field (attr f a)
+note_same field kept f (sets b) n = put_all (λ a x. field x ≡ field (attr f a)) f b (with_amount (attr f b) n) (kept (attr f b) n) (λ a. refl)
+note_same field kept f (adds b) n = put_all (λ a x. field x ≡ field (attr f a)) f b (with_amount (attr f b) n) (kept (attr f b) n) (λ a. refl)
+note_same field kept f (reads m) n = λ a. refl
 
 -- ---- ranges
 
@@ -72,46 +72,46 @@ sum_less a0 m n h k = omega arith
 sum_less a1 m n h k = omega arith
 sum_less a2 m n h k = tt
 
-pub sum-most : (a : Attribute) (n : ℕ) → n ≤ mostValue → SumFits a n
-sum-most a0 n h = h
-sum-most a1 n h = h
-sum-most a2 n h = tt
+pub sum_most : (a : Attribute) (n : ℕ) → n ≤ most_value → SumFits a n
+sum_most a0 n h = h
+sum_most a1 n h = h
+sum_most a2 n h = tt
 
 -- A value in range plus no adds is a sum in range; and if a metric attribute's sum is in range, so is its value.
-pub value-sum : (a : Attribute) (z : ℤ) (n : ℕ) → n ≡ 0 → ValueFits a z → SumFits a (size z + n)
-value-sum a0 z n e h = omega arith
-value-sum a1 z n e h = omega arith
-value-sum a2 z n e h = tt
+pub value_sum : (a : Attribute) (z : ℤ) (n : ℕ) → n ≡ 0 → ValueFits a z → SumFits a (size z + n)
+value_sum a0 z n e h = omega arith
+value_sum a1 z n e h = omega arith
+value_sum a2 z n e h = tt
 
-pub sum-value : (a : Attribute) (z : ℤ) (n : ℕ) → metric a ≡ true → SumFits a (size z + n) → ValueFits a z
-sum-value a0 z n e h = omega arith
-sum-value a1 z n e h = omega arith
-sum-value a2 z n e h = never_true (IsCode z) e
+pub sum_value : (a : Attribute) (z : ℤ) (n : ℕ) → metric a ≡ true → SumFits a (size z + n) → ValueFits a z
+sum_value a0 z n e h = omega arith
+sum_value a1 z n e h = omega arith
+sum_value a2 z n e h = never_true (IsCode z) e
 
-code-size : (z : ℤ) → IsCode z → size z ≤ mostState
-code-size (pos n) h = h
-code-size (negsuc n) h = absurd h
+code_size : (z : ℤ) → IsCode z → size z ≤ most_state
+code_size (pos n) h = h
+code_size (negsuc n) h = absurd h
 
-part-size : (b : Bool) (z : ℤ) (n : ℕ) → size z ≤ n → size (cond b z (pos 0)) ≤ n
-part-size true z n h = h
-part-size false z n h = omega arith
+part_size : (b : Bool) (z : ℤ) (n : ℕ) → size z ≤ n → size (cond b z (pos 0)) ≤ n
+part_size true z n h = h
+part_size false z n h = omega arith
 
 -- A proper reading is told used, promised, their sum, the state, or nothing: within ±2,000,000,000.
-pub told-range : (f : Figures) (m : ℕ) → properKind (reads m) ≡ true → ((a : Attribute) → ValueFits a (attr f a).value) →
-    size (present f m) ≤ mostError
-told-range f m proper h =
+pub told_range : (f : Figures) (m : ℕ) → proper_kind (reads m) ≡ true → ((a : Attribute) → ValueFits a (attr f a).value) →
+    size (present f m) ≤ most_error
+told_range f m proper h =
     go (within m a0) (within m a1) (within m a2) (attr f a0).value (attr f a1).value (attr f a2).value proper (h a0) (h a1) (h a2)
   where
-    go : (p q r : Bool) (x y z : ℤ) → cond r (not p && not q) true ≡ true → size x ≤ mostValue → size y ≤ mostValue → IsCode z →
-        size (cond p x (pos 0) +ℤ cond q y (pos 0) +ℤ cond r z (pos 0)) ≤ mostError
-    go true q true x y z e i j k = never_true (size (x +ℤ cond q y (pos 0) +ℤ z) ≤ mostError) e
-    go false true true x y z e i j k = never_true (size (pos 0 +ℤ y +ℤ z) ≤ mostError) e
-    go false false true x y z e i j k = omega (arith, size-add (pos 0 +ℤ pos 0) z, code-size z k)
+    go : (p q r : Bool) (x y z : ℤ) → cond r (not p && not q) true ≡ true → size x ≤ most_value → size y ≤ most_value → IsCode z →
+        size (cond p x (pos 0) +ℤ cond q y (pos 0) +ℤ cond r z (pos 0)) ≤ most_error
+    go true q true x y z e i j k = never_true (size (x +ℤ cond q y (pos 0) +ℤ z) ≤ most_error) e
+    go false true true x y z e i j k = never_true (size (pos 0 +ℤ y +ℤ z) ≤ most_error) e
+    go false false true x y z e i j k = omega (arith, size_add (pos 0 +ℤ pos 0) z, code_size z k)
     go p q false x y z e i j k =
         omega (
           arith,
-          size-add (cond p x (pos 0) +ℤ cond q y (pos 0)) (pos 0),
-          size-add (cond p x (pos 0)) (cond q y (pos 0)),
-          part-size p x mostValue i,
-          part-size q y mostValue j,
+          size_add (cond p x (pos 0) +ℤ cond q y (pos 0)) (pos 0),
+          size_add (cond p x (pos 0)) (cond q y (pos 0)),
+          part_size p x most_value i,
+          part_size q y most_value j,
         )

@@ -2,14 +2,14 @@
 use Rattle.std.specs.Prelude.{ℕ, ◌+◌, Bool, true, false, ◌&&◌, ◌||◌, ◌⊎◌, List, [], ◌∷◌}
 
 -- Every test of a list passes.
-abbrev pub allTrue : List Bool → Bool
-allTrue [] = true
-allTrue (b ∷ bs) = b && allTrue bs
+abbrev pub all_true : List Bool → Bool
+all_true [] = true
+all_true (b ∷ bs) = b && all_true bs
 
 -- The test p passes for every element.
-abbrev pub everyOf : {A : Type 0} → (A → Bool) → List A → Bool
-everyOf p [] = true
-everyOf p (x ∷ xs) = p x && everyOf p xs
+abbrev pub every_of : {A : Type 0} → (A → Bool) → List A → Bool
+every_of p [] = true
+every_of p (x ∷ xs) = p x && every_of p xs
 
 -- The test p passes for some element.
 abbrev pub any_of : {A : Type 0} → (A → Bool) → List A → Bool
@@ -17,9 +17,9 @@ any_of p [] = false
 any_of p (x ∷ xs) = p x || any_of p xs
 
 -- The test r passes for every two elements, the earlier one first.
-abbrev pub everyPair : {A : Type 0} → (A → A → Bool) → List A → Bool
-everyPair r [] = true
-everyPair r (x ∷ xs) = everyOf (r x) xs && everyPair r xs
+abbrev pub every_pair : {A : Type 0} → (A → A → Bool) → List A → Bool
+every_pair r [] = true
+every_pair r (x ∷ xs) = every_of (r x) xs && every_pair r xs
 
 -- The sum of f over the elements.
 abbrev pub sum_of : {A : Type 0} → (A → ℕ) → List A → ℕ

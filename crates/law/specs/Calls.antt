@@ -3,9 +3,9 @@ use Rattle.std.specs.Prelude.{ℕ, ◌+◌, Bool, true, false, cond, not, ◌||�
 use Rattle.num.specs.Metric.{size}
 use Rattle.law.specs.declared.Attr.{Attr}
 use Rattle.law.specs.declared.Claim.{Claim}
-use Rattle.law.specs.Base.{allTrue, any_of}
-use Rattle.law.specs.Types.{mostValue, mostError, mostState, places, lastTicket, Attribute, a0, a1, a2, Kind, sets, adds, reads, Table, Figures, attr, putAttr, Core, Disk, Asked, claim_of, Item, Outcome, refused, accepted}
-use Rattle.law.specs.Granting.{granted, grant, grantItem}
+use Rattle.law.specs.Base.{all_true, any_of}
+use Rattle.law.specs.Types.{most_value, most_error, most_state, places, last_ticket, Attribute, a0, a1, a2, Kind, sets, adds, reads, Table, Figures, attr, put_attr, Core, Disk, Asked, claim_of, Item, Outcome, refused, accepted}
+use Rattle.law.specs.Granting.{granted, grant, grant_item}
 use Rattle.law.specs.Entries.{kind_of}
 
 -- ---- refusals: a number and when it is given; the first rule of the list that holds gives the answer
@@ -22,45 +22,45 @@ unless (r ∷ rs) good = cond r.when (refused r.number) (unless rs good)
 
 -- A state is a code from 0 to 255.
 abbrev pub is_code : ℤ → Bool
-is_code (pos n) = leb n mostState
+is_code (pos n) = leb n most_state
 is_code (negsuc n) = false
 
 -- A value of attribute a is in its range.
-abbrev pub valueFits : Attribute → ℤ → Bool
-valueFits a0 z = leb (size z) mostValue
-valueFits a1 z = leb (size z) mostValue
-valueFits a2 z = is_code z
+abbrev pub value_fits : Attribute → ℤ → Bool
+value_fits a0 z = leb (size z) most_value
+value_fits a1 z = leb (size z) most_value
+value_fits a2 z = is_code z
 
 -- What refusal 17 tests at second now. A write: its value in range, no fresh flag, not measured after now, its own error in
 -- range. A reading: value and second of measuring 0, its stated limit in range.
-abbrev pub fieldTests : ℕ → Kind → Claim → List Bool
-fieldTests now (sets a) c = valueFits a c.value ∷ eqb c.flag 0 ∷ leb c.measured now ∷ leb c.error mostError ∷ []
-fieldTests now (adds a) c = leb (size c.value) mostValue ∷ eqb c.flag 0 ∷ leb c.measured now ∷ leb c.error mostError ∷ []
-fieldTests now (reads m) c = eqb (size c.value) 0 ∷ eqb c.measured 0 ∷ leb c.error mostError ∷ []
+abbrev pub field_tests : ℕ → Kind → Claim → List Bool
+field_tests now (sets a) c = value_fits a c.value ∷ eqb c.flag 0 ∷ leb c.measured now ∷ leb c.error most_error ∷ []
+field_tests now (adds a) c = leb (size c.value) most_value ∷ eqb c.flag 0 ∷ leb c.measured now ∷ leb c.error most_error ∷ []
+field_tests now (reads m) c = eqb (size c.value) 0 ∷ eqb c.measured 0 ∷ leb c.error most_error ∷ []
 
 -- A write's own error is within its attribute's limit.
-abbrev pub ownFits : Figures → Kind → ℕ → Bool
-ownFits f (sets a) own = leb own (attr f a).limit
-ownFits f (adds a) own = leb own (attr f a).limit
-ownFits f (reads m) stated = true
+abbrev pub own_fits : Figures → Kind → ℕ → Bool
+own_fits f (sets a) own = leb own (attr f a).limit
+own_fits f (adds a) own = leb own (attr f a).limit
+own_fits f (reads m) stated = true
 
 -- ---- the end of a claim
 
 -- A set stores its value, its stamp becomes the second of measuring. An add adds; the stamp stays.
-abbrev pub landBy : Figures → Kind → Claim → Figures
-landBy f (sets a) w = putAttr f a (record { value = w.value; stamp = w.measured; amount = (attr f a).amount; limit = (attr f a).limit })
-landBy f (adds a) w =
-    putAttr f a
+abbrev pub land_by : Figures → Kind → Claim → Figures
+land_by f (sets a) w = put_attr f a (record { value = w.value; stamp = w.measured; amount = (attr f a).amount; limit = (attr f a).limit })
+land_by f (adds a) w =
+    put_attr f a
     (record { value = (attr f a).value +ℤ w.value; stamp = (attr f a).stamp; amount = (attr f a).amount; limit = (attr f a).limit })
-landBy f (reads m) w = f
+land_by f (reads m) w = f
 
-abbrev pub hasTicket : ℕ → Claim → Bool
-hasTicket n w = eqb w.ticket n
+abbrev pub has_ticket : ℕ → Claim → Bool
+has_ticket n w = eqb w.ticket n
 
 -- The list without the claim with ticket n.
 abbrev pub without : ℕ → List Claim → List Claim
 without n [] = []
-without n (w ∷ ws) = cond (hasTicket n w) ws (w ∷ without n ws)
+without n (w ∷ ws) = cond (has_ticket n w) ws (w ∷ without n ws)
 
 -- ---- the pass's order: higher priority first, then lower ticket
 
@@ -87,8 +87,8 @@ item code ticket = record { code = code; ticket = ticket; told = pos 0; amount =
 
 -- ---- open
 
-abbrev pub newAttr : ℕ → ℕ → Attr
-newAttr now most = record { value = pos 0; stamp = now; amount = 0; limit = most }
+abbrev pub new_attr : ℕ → ℕ → Attr
+new_attr now most = record { value = pos 0; stamp = now; amount = 0; limit = most }
 
 -- An opened disk has values 0, amounts 0, stamps and clock = now, next ticket 1, no claims. The state's limit is 0.
 unfoldable pub opened : ℕ → ℕ → ℕ → Disk
@@ -97,7 +97,7 @@ opened now l0 l1 =
       core =
           record {
             clock = now;
-            figures = record { f0 = newAttr now l0; f1 = newAttr now l1; f2 = newAttr now 0 };
+            figures = record { f0 = new_attr now l0; f1 = new_attr now l1; f2 = new_attr now 0 };
             active = [];
           };
       waiting = [];
@@ -105,18 +105,18 @@ opened now l0 l1 =
     }
 
 -- The limits of used and promised are in range.
-abbrev pub limitsFit : ℕ → ℕ → Bool
-limitsFit l0 l1 = allTrue (leb l0 mostError ∷ leb l1 mostError ∷ [])
+abbrev pub limits_fit : ℕ → ℕ → Bool
+limits_fit l0 l1 = all_true (leb l0 most_error ∷ leb l1 most_error ∷ [])
 
-abbrev pub openRefusals : ℕ → ℕ → List Rule
-openRefusals l0 l1 = record { number = 17; when = not (limitsFit l0 l1) } ∷ []
+abbrev pub open_refusals : ℕ → ℕ → List Rule
+open_refusals l0 l1 = record { number = 17; when = not (limits_fit l0 l1) } ∷ []
 
-unfoldable pub openDisk : ℕ → ℕ → ℕ → Outcome
-openDisk now l0 l1 = unless (openRefusals l0 l1) (accepted (opened now l0 l1) (item 3 0 ∷ []))
+unfoldable pub open_disk : ℕ → ℕ → ℕ → Outcome
+open_disk now l0 l1 = unless (open_refusals l0 l1) (accepted (opened now l0 l1) (item 3 0 ∷ []))
 
 -- Accepted calls set the clock to now.
-abbrev pub setClock : ℕ → Core → Core
-setClock now s = record { clock = now; figures = s.figures; active = s.active }
+abbrev pub set_clock : ℕ → Core → Core
+set_clock now s = record { clock = now; figures = s.figures; active = s.active }
 
 -- The claim of a request, with the ticket that it would take.
 abbrev pub asked : Disk → Asked → Claim
@@ -124,51 +124,51 @@ asked d q = claim_of q d.next
 
 -- What a decision looks at, with the clock set to the second of the call.
 abbrev pub at : Disk → ℕ → Core
-at d now = setClock now d.core
+at d now = set_clock now d.core
 
 module _ (t : Table) where
   -- ---- claim
 
-  abbrev pub grantedAtOnce : Disk → Asked → Bool
-  grantedAtOnce d q = granted t (at d q.now) d.waiting (asked d q)
+  abbrev pub granted_at_once : Disk → Asked → Bool
+  granted_at_once d q = granted t (at d q.now) d.waiting (asked d q)
 
   -- Refusals 16 to 18 of claim c at second now. Every claim on a sound disk passes them too.
-  abbrev pub claimRefusals : Figures → ℕ → Claim → List Rule
-  claimRefusals f now c =
+  abbrev pub claim_refusals : Figures → ℕ → Claim → List Rule
+  claim_refusals f now c =
       record { number = 16; when = leb (length t.kinds) c.method }
-      ∷ record { number = 17; when = not (allTrue (fieldTests now (kind_of t c) c)) }
-      ∷ record { number = 18; when = not (ownFits f (kind_of t c) c.error) }
+      ∷ record { number = 17; when = not (all_true (field_tests now (kind_of t c) c)) }
+      ∷ record { number = 18; when = not (own_fits f (kind_of t c) c.error) }
       ∷ []
 
   -- The refusals of a claim, in the order they apply.
   abbrev pub refusals : Disk → Asked → List Rule
   refusals d q =
       record { number = 15; when = ltb q.now d.core.clock }
-      ∷ claimRefusals d.core.figures q.now (asked d q)
-      ++ (record { number = 19; when = ltb lastTicket d.next }
-      ∷ record { number = 20; when = cond (grantedAtOnce d q) false (leb places (length d.waiting)) }
+      ∷ claim_refusals d.core.figures q.now (asked d q)
+      ++ (record { number = 19; when = ltb last_ticket d.next }
+      ∷ record { number = 20; when = cond (granted_at_once d q) false (leb places (length d.waiting)) }
       ∷ [])
 
   -- The disk after the claim is granted, and after it is put among the waiting. Either way it
   -- takes the next ticket; waiting changes no amount.
-  abbrev pub withGrant : Disk → Asked → Disk
-  withGrant d q = record { core = grant t (at d q.now) (asked d q); waiting = d.waiting; next = d.next + 1 }
+  abbrev pub with_grant : Disk → Asked → Disk
+  with_grant d q = record { core = grant t (at d q.now) (asked d q); waiting = d.waiting; next = d.next + 1 }
 
-  abbrev pub withWait : Disk → Asked → Disk
-  withWait d q = record { core = at d q.now; waiting = queue (asked d q) d.waiting; next = d.next + 1 }
+  abbrev pub with_wait : Disk → Asked → Disk
+  with_wait d q = record { core = at d q.now; waiting = queue (asked d q) d.waiting; next = d.next + 1 }
 
   -- The answer item of a claim that waits: only its ticket.
-  abbrev pub waitItem : Disk → Asked → Item
-  waitItem d q = item 1 d.next
+  abbrev pub wait_item : Disk → Asked → Item
+  wait_item d q = item 1 d.next
 
-  abbrev pub decidedBy : Bool → Disk → Asked → Outcome
-  decidedBy ok d q =
+  abbrev pub decided_by : Bool → Disk → Asked → Outcome
+  decided_by ok d q =
       cond ok
-      (accepted (withGrant d q) (grantItem t (at d q.now) (asked d q) ∷ []))
-      (accepted (withWait d q) (waitItem d q ∷ []))
+      (accepted (with_grant d q) (grant_item t (at d q.now) (asked d q) ∷ []))
+      (accepted (with_wait d q) (wait_item d q ∷ []))
 
   abbrev pub decided : Disk → Asked → Outcome
-  decided d q = decidedBy (grantedAtOnce d q) d q
+  decided d q = decided_by (granted_at_once d q) d q
 
   unfoldable pub claim : Disk → Asked → Outcome
   claim d q = unless (refusals d q) (decided d q)
@@ -178,7 +178,7 @@ module _ (t : Table) where
   -- The figures after the active claim with ticket n ends.
   abbrev pub landed : Figures → ℕ → List Claim → Figures
   landed f n [] = f
-  landed f n (w ∷ ws) = cond (hasTicket n w) (landBy f (kind_of t w) w) (landed f n ws)
+  landed f n (w ∷ ws) = cond (has_ticket n w) (land_by f (kind_of t w) w) (landed f n ws)
 
   -- The state after the active claim with ticket n ends, if there is one.
   unfoldable pub finish : Core → ℕ → Core
@@ -188,29 +188,29 @@ module _ (t : Table) where
   unfoldable pub turn : Passing → Claim → Passing
   turn p c =
       cond (granted t p.core p.ahead c)
-      (record { core = grant t p.core c; ahead = p.ahead; items = p.items ++ (grantItem t p.core c ∷ []) })
+      (record { core = grant t p.core c; ahead = p.ahead; items = p.items ++ (grant_item t p.core c ∷ []) })
       (record { core = p.core; ahead = p.ahead ++ (c ∷ []); items = p.items })
 
   -- One pass over the waiting claims, in their order.
-  unfoldable pub passOver : Passing → List Claim → Passing
-  passOver p [] = p
-  passOver p (c ∷ cs) = passOver (turn p c) cs
+  unfoldable pub pass_over : Passing → List Claim → Passing
+  pass_over p [] = p
+  pass_over p (c ∷ cs) = pass_over (turn p c) cs
 
   abbrev pub pass : Core → List Claim → Passing
-  pass s waiting = passOver (record { core = s; ahead = []; items = [] }) waiting
+  pass s waiting = pass_over (record { core = s; ahead = []; items = [] }) waiting
 
   -- The claim with ticket n ends, active or waiting; then the pass.
   abbrev pub let_go : Disk → ℕ → ℕ → Passing
   let_go d now n = pass (finish (at d now) n) (without n d.waiting)
 
-  abbrev pub releaseRefusals : Disk → ℕ → ℕ → List Rule
-  releaseRefusals d now n =
+  abbrev pub release_refusals : Disk → ℕ → ℕ → List Rule
+  release_refusals d now n =
       record { number = 15; when = ltb now d.core.clock }
-      ∷ record { number = 21; when = not (any_of (hasTicket n) d.core.active || any_of (hasTicket n) d.waiting) }
+      ∷ record { number = 21; when = not (any_of (has_ticket n) d.core.active || any_of (has_ticket n) d.waiting) }
       ∷ []
 
-  abbrev pub withEnd : Disk → ℕ → ℕ → Disk
-  withEnd d now n = record { core = (let_go d now n).core; waiting = (let_go d now n).ahead; next = d.next }
+  abbrev pub with_end : Disk → ℕ → ℕ → Disk
+  with_end d now n = record { core = (let_go d now n).core; waiting = (let_go d now n).ahead; next = d.next }
 
   unfoldable pub release : Disk → ℕ → ℕ → Outcome
-  release d now n = unless (releaseRefusals d now n) (accepted (withEnd d now n) (item 2 n ∷ (let_go d now n).items))
+  release d now n = unless (release_refusals d now n) (accepted (with_end d now n) (item 2 n ∷ (let_go d now n).items))

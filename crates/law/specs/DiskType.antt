@@ -6,21 +6,21 @@ use Rattle.law.specs.Types.{Attribute, a0, a1, a2, Kind, sets, adds, reads, Tabl
 
 -- 0 ReportUsed sets used; 1 AddPromised adds to promised; 2 SetPromised; 3 SetState; 4 ReadUsed; 5 ReadLoad, told
 -- used + promised; 6 ReadState.
-abbrev pub diskKinds : List Kind
-diskKinds = sets a0 ∷ adds a1 ∷ sets a1 ∷ sets a2 ∷ reads 1 ∷ reads 3 ∷ reads 4 ∷ []
+abbrev pub disk_kinds : List Kind
+disk_kinds = sets a0 ∷ adds a1 ∷ sets a1 ∷ sets a2 ∷ reads 1 ∷ reads 3 ∷ reads 4 ∷ []
 
 -- Valid for 300, 300 and 3,600 seconds.
-abbrev pub diskValid : ℕ → Attribute → ℕ
-diskValid flag a0 = 300
-diskValid flag a1 = 300
-diskValid flag a2 = 3_600
+abbrev pub disk_valid : ℕ → Attribute → ℕ
+disk_valid flag a0 = 300
+disk_valid flag a1 = 300
+disk_valid flag a2 = 3_600
 
-unfoldable pub diskTable : Table
-diskTable = record { kinds = diskKinds; valid = diskValid }
+unfoldable pub disk_table : Table
+disk_table = record { kinds = disk_kinds; valid = disk_valid }
 
 -- The compatibility table. Row: active method; column: requested. TableLaws proves that it is the rule by kinds, and symmetric.
-unfoldable pub diskEntries : List (List Entry)
-diskEntries =
+unfoldable pub disk_entries : List (List Entry)
+disk_entries =
     (D ∷ A ∷ A ∷ A ∷ G ∷ G ∷ A ∷ [])
     ∷ (A ∷ A ∷ N ∷ A ∷ A ∷ G ∷ A ∷ [])
     ∷ (A ∷ N ∷ D ∷ A ∷ A ∷ G ∷ A ∷ [])

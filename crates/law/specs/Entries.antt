@@ -6,33 +6,33 @@ use Rattle.law.specs.declared.Entry.TheVariants.{A, N, D, G}
 use Rattle.law.specs.Types.{Attribute, metric, same, within, Kind, sets, adds, reads, Table}
 
 -- A write of a beside a reading of mask m: G if m has a (N if a is the state), otherwise A.
-abbrev pub entryRead : Attribute → ℕ → Entry
-entryRead a m = cond (within m a) (cond (metric a) G N) A
+abbrev pub entry_read : Attribute → ℕ → Entry
+entry_read a m = cond (within m a) (cond (metric a) G N) A
 
 -- Two sets of the same metric attribute: D. A set and an add of the same attribute: N. Two adds: A. A reading and a write of a metric
 -- attribute that it reads: G. Two methods on the state: N, unless both read it (no method adds to a state). Everything else: A.
-abbrev pub entryBy : Kind → Kind → Entry
-entryBy (sets a) (sets b) = cond (same a b) (cond (metric a) D N) A
-entryBy (sets a) (adds b) = cond (same a b) N A
-entryBy (sets a) (reads m) = entryRead a m
-entryBy (adds a) (sets b) = cond (same a b) N A
-entryBy (adds a) (adds b) = A
-entryBy (adds a) (reads m) = entryRead a m
-entryBy (reads m) (sets b) = entryRead b m
-entryBy (reads m) (adds b) = entryRead b m
-entryBy (reads m) (reads n) = A
+abbrev pub entry_by : Kind → Kind → Entry
+entry_by (sets a) (sets b) = cond (same a b) (cond (metric a) D N) A
+entry_by (sets a) (adds b) = cond (same a b) N A
+entry_by (sets a) (reads m) = entry_read a m
+entry_by (adds a) (sets b) = cond (same a b) N A
+entry_by (adds a) (adds b) = A
+entry_by (adds a) (reads m) = entry_read a m
+entry_by (reads m) (sets b) = entry_read b m
+entry_by (reads m) (adds b) = entry_read b m
+entry_by (reads m) (reads n) = A
 
-abbrev pub isAlways : Entry → Bool
-isAlways A = true
-isAlways N = false
-isAlways D = false
-isAlways G = false
+abbrev pub is_always : Entry → Bool
+is_always A = true
+is_always N = false
+is_always D = false
+is_always G = false
 
-abbrev pub isNever : Entry → Bool
-isNever A = false
-isNever N = true
-isNever D = false
-isNever G = false
+abbrev pub is_never : Entry → Bool
+is_never A = false
+is_never N = true
+is_never D = false
+is_never G = false
 
 module _ (t : Table) where
   -- The kind of method m; an unknown method is a reading of nothing.
@@ -44,4 +44,4 @@ module _ (t : Table) where
 
   -- The entry of the active claim w and the requested claim c.
   abbrev pub entry : Claim → Claim → Entry
-  entry w c = entryBy (kind_of w) (kind_of c)
+  entry w c = entry_by (kind_of w) (kind_of c)

@@ -11,14 +11,14 @@ use Rattle.num.specs.Metric.{size, dist}
 use Rattle.law.specs.declared.Claim.{Claim}
 use Rattle.law.specs.declared.Entry.{Entry}
 use Rattle.law.specs.declared.Entry.TheVariants.{A, N, D, G}
-use Rattle.law.specs.Base.{allTrue, everyOf, sum_of, All}
+use Rattle.law.specs.Base.{all_true, every_of, sum_of, All}
 use Rattle.law.specs.Lists.{never_true, sum-append, sum-map, passed}
-use Rattle.law.specs.Says.{by-test, says-every, says-self, says-fails}
-use Rattle.law.specs.Types.{places, Attribute, a0, a1, a2, Kind, sets, adds, reads, Table, Figures, attr, putAttr, Core, Item}
-use Rattle.law.specs.Granting.{addsTo, start_by, limitBy, costBy, amountBy, withAmount, noteBy, addsOn, addable, bearable, ranged, preconditionTests, preconditions, start, limit, gap, cost, total, stays, lockTests, lockStep, grantTests, granted, raised, asGranted, grant, grantItem}
-use Rattle.law.specs.Calls.{Passing, turn, passOver}
+use Rattle.law.specs.Says.{by_test, says_every, says_self, says_fails}
+use Rattle.law.specs.Types.{places, Attribute, a0, a1, a2, Kind, sets, adds, reads, Table, Figures, attr, put_attr, Core, Item}
+use Rattle.law.specs.Granting.{adds_to, start_by, limit_by, cost_by, amount_by, with_amount, note_by, adds_on, addable, bearable, ranged, precondition_tests, preconditions, start, limit, gap, cost, total, stays, lock_tests, lock_step, grant_tests, granted, raised, as_granted, grant, grant_item}
+use Rattle.law.specs.Calls.{Passing, turn, pass_over}
 use Rattle.law.specs.Fields.{OwnFits}
-use Rattle.law.specs.Entries.{isNever, kind_of, entry}
+use Rattle.law.specs.Entries.{is_never, kind_of, entry}
 use Rattle.law.specs.Readings.{carried}
 
 -- Under D, and under G if a reading is requested, the active claim adds to the total.
@@ -30,86 +30,86 @@ counts G (sets a) = false
 counts G (adds a) = false
 counts G (reads m) = true
 
-cost-none : (e : Entry) (k : Kind) (d g : ℕ) → counts e k ≡ false → costBy e k d g ≡ 0
-cost-none A k d g h = refl
-cost-none N k d g h = refl
-cost-none D k d g h = never_true (d ≡ 0) (sym h)
-cost-none G (sets a) d g h = refl
-cost-none G (adds a) d g h = refl
-cost-none G (reads m) d g h = never_true (g ≡ 0) (sym h)
+cost_none : (e : Entry) (k : Kind) (d g : ℕ) → counts e k ≡ false → cost_by e k d g ≡ 0
+cost_none A k d g h = refl
+cost_none N k d g h = refl
+cost_none D k d g h = never_true (d ≡ 0) (sym h)
+cost_none G (sets a) d g h = refl
+cost_none G (adds a) d g h = refl
+cost_none G (reads m) d g h = never_true (g ≡ 0) (sym h)
 
 cond-true : (b : Bool) → cond b true true ≡ true
 cond-true true = refl
 cond-true false = refl
 
-amount-put : (f : Figures) (a : Attribute) (n : ℕ) → (attr (putAttr f a (withAmount (attr f a) n)) a).amount ≡ n
-amount-put f a0 n = refl
-amount-put f a1 n = refl
-amount-put f a2 n = refl
+amount_put : (f : Figures) (a : Attribute) (n : ℕ) → (attr (put_attr f a (with_amount (attr f a) n)) a).amount ≡ n
+amount_put f a0 n = refl
+amount_put f a1 n = refl
+amount_put f a2 n = refl
 
 module _ (t : Table) where
   -- ---- which tests a grant has passed, and what it adds
 
   -- The entry of the two claims isn't N.
   abbrev pub NotNever : Claim → Claim → Type 0
-  NotNever x y = isNever (entry t x y) ≡ false
+  NotNever x y = is_never (entry t x y) ≡ false
 
   pub record MayGrant (s : Core) (c : Claim) : Type 0 where
     pub in_range : ranged t s (kind_of t c) c.value ≡ true
-    pub noNever : All (λ w. NotNever w c) s.active
-    pub inLimit : total t s c ≤ limit t s c
-    pub allStay : All (λ w. stays t s c w ≡ true) s.active
+    pub no_never : All (λ w. NotNever w c) s.active
+    pub in_limit : total t s c ≤ limit t s c
+    pub all_stay : All (λ w. stays t s c w ≡ true) s.active
     pub place : length s.active < places
 
-  pub grant-says : (s : Core) (ahead : List Claim) (c : Claim) → granted t s ahead c ≡ true → MayGrant s c
-  unfolding granted preconditions lockStep
-  grant-says s ahead c g =
-      let tests = passed (grantTests t s ahead c) g in
-      let lock = passed (lockTests t s c) tests.1.1.0 in
+  pub grant_says : (s : Core) (ahead : List Claim) (c : Claim) → granted t s ahead c ≡ true → MayGrant s c
+  unfolding granted preconditions lock_step
+  grant_says s ahead c g =
+      let tests = passed (grant_tests t s ahead c) g in
+      let lock = passed (lock_tests t s c) tests.1.1.0 in
       record {
-        in_range = (passed (preconditionTests t s c) tests.0).1.1.1.0;
-        noNever = (says-every (λ w. says-fails (isNever (entry t w c))) s.active).0 lock.0;
-        inLimit = leb-true (total t s c) (limit t s c) lock.1.0;
-        allStay = (says-every (λ w. says-self (stays t s c w)) s.active).0 lock.1.1.0;
+        in_range = (passed (precondition_tests t s c) tests.0).1.1.1.0;
+        no_never = (says_every (λ w. says_fails (is_never (entry t w c))) s.active).0 lock.0;
+        in_limit = leb-true (total t s c) (limit t s c) lock.1.0;
+        all_stay = (says_every (λ w. says_self (stays t s c w)) s.active).0 lock.1.1.0;
         place = ltb-true (length s.active) places tests.1.1.1.0;
       }
 
   -- What a claim adds to the sum of attribute a.
   abbrev pub adding : Attribute → Claim → ℕ
-  adding a c = cond (addsTo a (kind_of t c)) (size c.value) 0
+  adding a c = cond (adds_to a (kind_of t c)) (size c.value) 0
 
   -- The sum of the adds after a grant: the sum before it, plus what the granted claim adds.
-  pub adds-grown : (a : Attribute) (s : Core) (c : Claim) (ws : List Claim) →
-      addsOn t a (map (raised t s c) ws ++ (asGranted t s c ∷ [])) ≡ addsOn t a ws + adding a c
-  adds-grown a s c ws =
-      omega (arith, sum-append (adding a) (map (raised t s c) ws) (asGranted t s c ∷ []), sum-map (adding a) (raised t s c) (λ w. refl) ws)
+  pub adds_grown : (a : Attribute) (s : Core) (c : Claim) (ws : List Claim) →
+      adds_on t a (map (raised t s c) ws ++ (as_granted t s c ∷ [])) ≡ adds_on t a ws + adding a c
+  adds_grown a s c ws =
+      omega (arith, sum-append (adding a) (map (raised t s c) ws) (as_granted t s c ∷ []), sum-map (adding a) (raised t s c) (λ w. refl) ws)
 
   -- ---- the start and the walk
 
   -- A claim that passes 18 and whose preconditions hold starts within its limit.
-  start-by : (s : Core) (k : Kind) (own : ℕ) → OwnFits s.figures k own → addable t s k own ≡ true → bearable t s k own ≡ true →
-      start_by s.figures k own ≤ limitBy s.figures k own
-  start-by s (sets a) own h b c = h
-  start-by s (adds a) own h b c = leb-true ((attr s.figures a).amount + own) (attr s.figures a).limit b
-  start-by s (reads m) own h b c = leb-true (carried s.figures m) own c
+  start_by_lem : (s : Core) (k : Kind) (own : ℕ) → OwnFits s.figures k own → addable t s k own ≡ true → bearable t s k own ≡ true →
+      start_by s.figures k own ≤ limit_by s.figures k own
+  start_by_lem s (sets a) own h b c = h
+  start_by_lem s (adds a) own h b c = leb-true ((attr s.figures a).amount + own) (attr s.figures a).limit b
+  start_by_lem s (reads m) own h b c = leb-true (carried s.figures m) own c
 
-  pub start-within : (s : Core) (c : Claim) → OwnFits s.figures (kind_of t c) c.error → preconditions t s c ≡ true →
+  pub start_within : (s : Core) (c : Claim) → OwnFits s.figures (kind_of t c) c.error → preconditions t s c ≡ true →
       start t s c ≤ limit t s c
   unfolding preconditions
-  start-within s c own pre =
-      let p = passed (preconditionTests t s c) pre in
-      start-by s (kind_of t c) c.error own p.1.0 p.1.1.0
+  start_within s c own pre =
+      let p = passed (precondition_tests t s c) pre in
+      start_by_lem s (kind_of t c) c.error own p.1.0 p.1.1.0
 
   -- A reading starts at the error that the figures carry.
-  pub start-reads : (s : Core) (c : Claim) (m : ℕ) → kind_of t c ≡ reads m → start t s c ≡ carried s.figures m
-  start-reads s c m p = rw p
+  pub start_reads : (s : Core) (c : Claim) (m : ℕ) → kind_of t c ≡ reads m → start t s c ≡ carried s.figures m
+  start_reads s c m p = rw p
 
   -- 01's lock step word by word: take each active claim in turn, and test the total n wherever something was added to it.
   unfoldable pub walked : Core → Claim → ℕ → List Claim → Bool
   walked s c n [] = true
   walked s c n (w ∷ ws) =
-      allTrue
-      (not (isNever (entry t w c))
+      all_true
+      (not (is_never (entry t w c))
       ∷ cond (counts (entry t w c) (kind_of t c)) (leb (n + cost t s c w) (limit t s c)) true
       ∷ stays t s c w
       ∷ [])
@@ -118,18 +118,18 @@ module _ (t : Table) where
   -- The three tests of the lock step, over the remaining claims.
   left : Core → Claim → ℕ → List Claim → Bool
   left s c n ws =
-      allTrue
-      (everyOf (λ w. not (isNever (entry t w c))) ws
+      all_true
+      (every_of (λ w. not (is_never (entry t w c))) ws
       ∷ leb (n + sum_of (cost t s c) ws) (limit t s c)
-      ∷ everyOf (stays t s c) ws
+      ∷ every_of (stays t s c) ws
       ∷ [])
 
-  walk-left : (s : Core) (c : Claim) (n : ℕ) (ws : List Claim) → n ≤ limit t s c → walked s c n ws ≡ left s c n ws
+  walk_left : (s : Core) (c : Claim) (n : ℕ) (ws : List Claim) → n ≤ limit t s c → walked s c n ws ≡ left s c n ws
   unfolding walked left
-  walk-left s c n [] h = sym (ap (λ (b : Bool). b && true) (le-leb (n + 0) (limit t s c) (omega arith)))
-  walk-left s c n (w ∷ ws) h =
-      go (not (isNever (entry t w c))) (stays t s c w) (counts (entry t w c) (kind_of t c)) (leb (n + x) l) refl refl
-      (λ k. walk-left s c (n + x) ws k)
+  walk_left s c n [] h = sym (ap (λ (b : Bool). b && true) (le-leb (n + 0) (limit t s c) (omega arith)))
+  walk_left s c n (w ∷ ws) h =
+      go (not (is_never (entry t w c))) (stays t s c w) (counts (entry t w c) (kind_of t c)) (leb (n + x) l) refl refl
+      (λ k. walk_left s c (n + x) ws k)
     where
       l : ℕ
       l = limit t s c
@@ -141,10 +141,10 @@ module _ (t : Table) where
       rest = sum_of (cost t s c) ws
 
       nevers : Bool
-      nevers = everyOf (λ y. not (isNever (entry t y c))) ws
+      nevers = every_of (λ y. not (is_never (entry t y c))) ws
 
       stay : Bool
-      stay = everyOf (stays t s c) ws
+      stay = every_of (stays t s c) ws
 
       -- if n + x is over the limit, w has added something, and the whole sum is over it too
       passes : (b : Bool) → counts (entry t w c) (kind_of t c) ≡ b → leb (n + x) l ≡ false → b ≡ true
@@ -154,13 +154,13 @@ module _ (t : Table) where
           (omega (
             arith,
             leb-false (n + x) l r,
-            cost-none (entry t w c) (kind_of t c) (dist c.value w.value) (gap t s w) p,
+            cost_none (entry t w c) (kind_of t c) (dist c.value w.value) (gap t s w) p,
           ))
 
       go : (a e b q : Bool) → counts (entry t w c) (kind_of t c) ≡ b → leb (n + x) l ≡ q →
           (n + x ≤ l → walked s c (n + x) ws ≡ left s c (n + x) ws) →
-          (allTrue (a ∷ cond b q true ∷ e ∷ []) && walked s c (n + x) ws)
-          ≡ allTrue ((a && nevers) ∷ leb (n + (x + rest)) l ∷ (e && stay) ∷ [])
+          (all_true (a ∷ cond b q true ∷ e ∷ []) && walked s c (n + x) ws)
+          ≡ all_true ((a && nevers) ∷ leb (n + (x + rest)) l ∷ (e && stay) ∷ [])
       go false e b q p r ih = refl
       go true false b q p r ih =
           ap (λ (y : Bool). y && walked s c (n + x) ws) (and-false (cond b q true))
@@ -176,51 +176,51 @@ module _ (t : Table) where
           (lt-leb (n + (x + rest)) l (omega (arith, leb-false (n + x) l r)))
           ∙ and-false nevers)
 
-  pub lock-in-turn : (s : Core) (c : Claim) → start t s c ≤ limit t s c → walked s c (start t s c) s.active ≡ lockStep t s c
-  unfolding lockStep left total
-  lock-in-turn s c h = walk-left s c (start t s c) s.active h
+  pub lock_in_turn : (s : Core) (c : Claim) → start t s c ≤ limit t s c → walked s c (start t s c) s.active ≡ lock_step t s c
+  unfolding lock_step left total
+  lock_in_turn s c h = walk_left s c (start t s c) s.active h
 
   -- ---- answers
 
   -- A write's answer shows the attribute's amount after the grant; a reading's shows its own amount.
-  pub set-shows : (s : Core) (c : Claim) (a : Attribute) → kind_of t c ≡ sets a → (attr (grant t s c).figures a).amount ≡ (grantItem t s c).amount
-  unfolding grant grantItem
-  set-shows s c a p = ap (λ (k : Kind). (attr (noteBy s.figures k (total t s c)) a).amount) p ∙ amount-put s.figures a (total t s c)
+  pub set_shows : (s : Core) (c : Claim) (a : Attribute) → kind_of t c ≡ sets a → (attr (grant t s c).figures a).amount ≡ (grant_item t s c).amount
+  unfolding grant grant_item
+  set_shows s c a p = ap (λ (k : Kind). (attr (note_by s.figures k (total t s c)) a).amount) p ∙ amount_put s.figures a (total t s c)
 
-  pub add-shows : (s : Core) (c : Claim) (a : Attribute) → kind_of t c ≡ adds a → (attr (grant t s c).figures a).amount ≡ (grantItem t s c).amount
-  unfolding grant grantItem
-  add-shows s c a p = ap (λ (k : Kind). (attr (noteBy s.figures k (total t s c)) a).amount) p ∙ amount-put s.figures a (total t s c)
+  pub add_shows : (s : Core) (c : Claim) (a : Attribute) → kind_of t c ≡ adds a → (attr (grant t s c).figures a).amount ≡ (grant_item t s c).amount
+  unfolding grant grant_item
+  add_shows s c a p = ap (λ (k : Kind). (attr (note_by s.figures k (total t s c)) a).amount) p ∙ amount_put s.figures a (total t s c)
 
-  pub reading-shows : (s : Core) (c : Claim) (m : ℕ) → kind_of t c ≡ reads m →
-      ((asGranted t s c).amount ≡ (grantItem t s c).amount) × ((asGranted t s c).told ≡ (grantItem t s c).told)
-  unfolding grantItem
-  reading-shows s c m p = (ap (λ (k : Kind). amountBy k (total t s c)) p, refl)
+  pub reading_shows : (s : Core) (c : Claim) (m : ℕ) → kind_of t c ≡ reads m →
+      ((as_granted t s c).amount ≡ (grant_item t s c).amount) × ((as_granted t s c).told ≡ (grant_item t s c).told)
+  unfolding grant_item
+  reading_shows s c m p = (ap (λ (k : Kind). amount_by k (total t s c)) p, refl)
 
   -- A turn of the pass grants its claim or leaves it waiting.
   pub by_turn : (P : Passing → Type 0) (p : Passing) (c : Claim) →
       (granted t p.core p.ahead c ≡ true →
-      P (record { core = grant t p.core c; ahead = p.ahead; items = p.items ++ (grantItem t p.core c ∷ []) })) →
+      P (record { core = grant t p.core c; ahead = p.ahead; items = p.items ++ (grant_item t p.core c ∷ []) })) →
       (granted t p.core p.ahead c ≡ false → P (record { core = p.core; ahead = p.ahead ++ (c ∷ []); items = p.items })) →
       P (turn t p c)
   unfolding turn
-  by_turn P p c grants waits = by-test P (granted t p.core p.ahead c) grants waits
+  by_turn P p c grants waits = by_test P (granted t p.core p.ahead c) grants waits
 
   -- A turn that grants appends the answer of that grant.
-  pub turn-answers : (p : Passing) (c : Claim) → granted t p.core p.ahead c ≡ true →
-      (turn t p c).items ≡ p.items ++ (grantItem t p.core c ∷ [])
-  turn-answers p c h =
-      by_turn (λ q. q.items ≡ p.items ++ (grantItem t p.core c ∷ [])) p c (λ e. refl) (λ e. absurd (true≢false (sym h ∙ e)))
+  pub turn_answers : (p : Passing) (c : Claim) → granted t p.core p.ahead c ≡ true →
+      (turn t p c).items ≡ p.items ++ (grant_item t p.core c ∷ [])
+  turn_answers p c h =
+      by_turn (λ q. q.items ≡ p.items ++ (grant_item t p.core c ∷ [])) p c (λ e. refl) (λ e. absurd (true≢false (sym h ∙ e)))
 
-  turn-extends : (p : Passing) (c : Claim) → (new : List Item) × ((turn t p c).items ≡ p.items ++ new)
-  turn-extends p c =
-      by_turn (λ q. (new : List Item) × (q.items ≡ p.items ++ new)) p c (λ e. (grantItem t p.core c ∷ [], refl))
+  turn_extends : (p : Passing) (c : Claim) → (new : List Item) × ((turn t p c).items ≡ p.items ++ new)
+  turn_extends p c =
+      by_turn (λ q. (new : List Item) × (q.items ≡ p.items ++ new)) p c (λ e. (grant_item t p.core c ∷ [], refl))
       (λ e. ([], sym (append-nil p.items)))
 
   -- Later turns only append: the answers so far stay in front, unchanged.
-  pub answers_stay : (p : Passing) (cs : List Claim) → (new : List Item) × ((passOver t p cs).items ≡ p.items ++ new)
-  unfolding passOver
+  pub answers_stay : (p : Passing) (cs : List Claim) → (new : List Item) × ((pass_over t p cs).items ≡ p.items ++ new)
+  unfolding pass_over
   answers_stay p [] = ([], sym (append-nil p.items))
   answers_stay p (c ∷ cs) =
-      let one = turn-extends p c in
+      let one = turn_extends p c in
       let more = answers_stay (turn t p c) cs in
       (one.0 ++ more.0, more.1 ∙ ap (λ (l : List Item). l ++ more.0) one.1 ∙ append_assoc p.items one.0 more.0)

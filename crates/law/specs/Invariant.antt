@@ -4,17 +4,17 @@ use Rattle.std.specs.Prelude.{ℕ, ◌+◌, ◌≤◌, ◌<◌, true, List, [], 
 use Rattle.std.proofs.Common.{sym, ap, subst, arith}
 use Rattle.law.specs.declared.Claim.{Claim}
 use Rattle.law.specs.Base.{All, Pairs}
-use Rattle.law.specs.Lists.{all_say, all_both, all_append, all_there, all-less, pairs-last, all_more, all_grown, pairs-around}
+use Rattle.law.specs.Lists.{all_say, all_both, all_append, all_there, all_less, pairs_last, all_more, all_grown, pairs_around}
 use Rattle.law.specs.Types.{Attribute, Kind, reads, Table, Figures, attr, Core, Item}
 use Rattle.law.specs.Entries.{kind_of}
-use Rattle.law.specs.Granting.{limitBy, toldBy, carriedBy, amountBy, total, growth, stays, granted, raised, asGranted, grant, grantItem}
+use Rattle.law.specs.Granting.{limit_by, told_by, carried_by, amount_by, total, growth, stays, granted, raised, as_granted, grant, grant_item}
 use Rattle.law.specs.Calls.{without, landed}
 use Rattle.law.specs.History.{Once}
-use Rattle.law.specs.QueueLaws.{ended-cases, all_without}
-use Rattle.law.specs.TicketLaws.{Apart, Ticketed, ticketed-end, ticketed-leave, ticketed-new, ticketed-grant}
-use Rattle.law.specs.GrantLaws.{NotNever, MayGrant, grant-says}
-use Rattle.law.specs.Near.{gapOn, share_of}
-use Rattle.law.specs.Covered.{Covered, covered-grant, covered_start, covered-end}
+use Rattle.law.specs.QueueLaws.{ended_cases, all_without}
+use Rattle.law.specs.TicketLaws.{Apart, Ticketed, ticketed_end, ticketed_leave, ticketed_new, ticketed_grant}
+use Rattle.law.specs.GrantLaws.{NotNever, MayGrant, grant_says}
+use Rattle.law.specs.Near.{gap_on, share_of}
+use Rattle.law.specs.Covered.{Covered, covered_grant, covered_start, covered_end}
 
 -- If the item grants, its ticket has been taken, and its claim no longer waits.
 abbrev pub Given : ℕ → List Claim → Item → Type 0
@@ -42,13 +42,13 @@ module _ (t : Table) where
     pub borne : All (AllBorne f active) past
 
   -- An answer that grants nothing keeps it.
-  pub kept-note : {f : Figures} {active waiting : List Claim} {next : ℕ} {past : List Item} (i : Item) → (i.code ≡ 0 → ⊥) →
+  pub kept_note : {f : Figures} {active waiting : List Claim} {next : ℕ} {past : List Item} (i : Item) → (i.code ≡ 0 → ⊥) →
       Invariant f active waiting next past → Invariant f active waiting next (past ++ (i ∷ []))
-  kept-note {f} {active} {waiting} {next} {past} i other h =
+  kept_note {f} {active} {waiting} {next} {past} i other h =
       record {
         tickets = h.tickets;
         given = all_append _ past (i ∷ []) h.given ((λ e. absurd (other e)), tt);
-        once = pairs-last Once past i h.once (all_say (Given next waiting) _ (λ j g e k q. other k) past h.given);
+        once = pairs_last Once past i h.once (all_say (Given next waiting) _ (λ j g e k q. other k) past h.given);
         borne = all_append (AllBorne f active) past (i ∷ []) h.borne ((λ e. absurd (other e)), tt);
       }
 
@@ -57,7 +57,7 @@ module _ (t : Table) where
       c.ticket ≡ next → Invariant f active (xs ++ ys) next past → Invariant f active (xs ++ (c ∷ ys)) (next + 1) past
   kept_new {next = next} {past = past} xs ys c e h =
       record {
-        tickets = ticketed-new xs ys c e h.tickets;
+        tickets = ticketed_new xs ys c e h.tickets;
         given =
             all_say (Given next (xs ++ ys)) (Given (next + 1) (xs ++ (c ∷ ys)))
             (λ i g z.
@@ -69,27 +69,27 @@ module _ (t : Table) where
       }
 
   -- A waiting claim ends.
-  pub kept-leave : {f : Figures} {active : List Claim} {next : ℕ} {past : List Item} (xs : List Claim) (w : Claim) (ys : List Claim) →
+  pub kept_leave : {f : Figures} {active : List Claim} {next : ℕ} {past : List Item} (xs : List Claim) (w : Claim) (ys : List Claim) →
       Invariant f active (xs ++ (w ∷ ys)) next past → Invariant f active (xs ++ ys) next past
-  kept-leave {next = next} {past = past} xs w ys h =
+  kept_leave {next = next} {past = past} xs w ys h =
       record {
-        tickets = ticketed-leave xs w ys h.tickets;
+        tickets = ticketed_leave xs w ys h.tickets;
         given =
             all_say (Given next (xs ++ (w ∷ ys))) (Given next (xs ++ ys))
-            (λ i g z. ((g z).0, all-less (λ v. v.ticket ≡ i.ticket → ⊥) xs w ys (g z).1))
+            (λ i g z. ((g z).0, all_less (λ v. v.ticket ≡ i.ticket → ⊥) xs w ys (g z).1))
             past h.given;
         once = h.once;
         borne = h.borne;
       }
 
   -- The claim with ticket n ends, if it is active.
-  pub kept-end : {f : Figures} {active waiting : List Claim} {next : ℕ} {past : List Item} (n : ℕ) →
+  pub kept_end : {f : Figures} {active waiting : List Claim} {next : ℕ} {past : List Item} (n : ℕ) →
       Invariant f active waiting next past → Invariant (landed t f n active) (without n active) waiting next past
-  kept-end {f} {active} {waiting} {next} {past} n h =
+  kept_end {f} {active} {waiting} {next} {past} n h =
       record {
         tickets =
-            ended-cases t (λ us g vs. Ticketed next us waiting → Ticketed next vs waiting) f n
-            (λ us k. k) (λ xs w ys. ticketed-end xs w ys) active h.tickets;
+            ended_cases t (λ us g vs. Ticketed next us waiting → Ticketed next vs waiting) f n
+            (λ us k. k) (λ xs w ys. ticketed_end xs w ys) active h.tickets;
         given = h.given;
         once = h.once;
         borne =
@@ -103,7 +103,7 @@ module _ (t : Table) where
               z = old.z;
               share = old.share;
               told = old.told;
-              held = covered-end t f active n m i.carried r old.z old.share old.held;
+              held = covered_end t f active n m i.carried r old.z old.share old.held;
             })
             active (g z)))
             past h.borne;
@@ -116,37 +116,37 @@ module _ (t : Table) where
       left = without n active
 
   -- A waiting claim is granted: active readings are raised, and if it is a reading, its own answer starts its own bound.
-  pub kept-grant : (s : Core) {next : ℕ} {past : List Item} (ahead : List Claim) (c : Claim) (xs ys : List Claim) →
+  pub kept_grant : (s : Core) {next : ℕ} {past : List Item} (ahead : List Claim) (c : Claim) (xs ys : List Claim) →
       granted t s ahead c ≡ true →
       Invariant s.figures s.active (xs ++ (c ∷ ys)) next past →
-      Invariant (grant t s c).figures (grant t s c).active (xs ++ ys) next (past ++ (grantItem t s c ∷ []))
-  unfolding grant grantItem
-  kept-grant s {next} {past} ahead c xs ys ok h =
+      Invariant (grant t s c).figures (grant t s c).active (xs ++ ys) next (past ++ (grant_item t s c ∷ []))
+  unfolding grant grant_item
+  kept_grant s {next} {past} ahead c xs ys ok h =
       record {
-        tickets = ticketed-grant xs c ys (toldBy f (kind_of t c)) (amountBy (kind_of t c) (total t s c)) (growth t s c) h.tickets;
+        tickets = ticketed_grant xs c ys (told_by f (kind_of t c)) (amount_by (kind_of t c) (total t s c)) (growth t s c) h.tickets;
         given =
-            all_append (Given next (xs ++ ys)) past (i' ∷ []) (kept-leave xs c ys h).given (
+            all_append (Given next (xs ++ ys)) past (i' ∷ []) (kept_leave xs c ys h).given (
               (λ z. (
-                all_there (λ w. w.ticket < next) xs c ys h.tickets.belowWaiting,
-                pairs-around Apart (λ w. Apart w c) xs c ys (λ x i. i) (λ x i j. i (sym j)) h.tickets.apartWaiting,
+                all_there (λ w. w.ticket < next) xs c ys h.tickets.below_waiting,
+                pairs_around Apart (λ w. Apart w c) xs c ys (λ x i. i) (λ x i j. i (sym j)) h.tickets.apart_waiting,
               )),
               tt,
             );
-        once = pairs-last Once past i' h.once (all_say New _ (λ i u z o q. u z q) past new);
+        once = pairs_last Once past i' h.once (all_say New _ (λ i u z o q. u z q) past new);
         borne =
             all_append (AllBorne f' active') past (i' ∷ [])
             (all_both (AllBorne f s.active) New (AllBorne f' active')
             (λ i old u z.
-            all_grown (raised t s c) s.active (asGranted t s c) (Borne f' active' i)
+            all_grown (raised t s c) s.active (as_granted t s c) (Borne f' active' i)
             (all_both (λ r. NotNever t r c) (λ r. (stays t s c r ≡ true) × Borne f s.active i r) _
             (λ r never sb. raise i r never sb.0 sb.1)
-            s.active may.noNever
-            (all_both (λ r. stays t s c r ≡ true) (Borne f s.active i) _ (λ r stay b. (stay, b)) s.active may.allStay (old z)))
+            s.active may.no_never
+            (all_both (λ r. stays t s c r ≡ true) (Borne f s.active i) _ (λ r stay b. (stay, b)) s.active may.all_stay (old z)))
             (λ q. absurd (u z (sym q))))
             past h.borne new) (
               (λ z.
-                  all_grown (raised t s c) s.active (asGranted t s c) (Borne f' active' i')
-                  (all_say (λ r. All (Apart r) (xs ++ (c ∷ ys))) _ (λ r k q. absurd (all_there (Apart r) xs c ys k q)) s.active h.tickets.apartBoth)
+                  all_grown (raised t s c) s.active (as_granted t s c) (Borne f' active' i')
+                  (all_say (λ r. All (Apart r) (xs ++ (c ∷ ys))) _ (λ r k q. absurd (all_there (Apart r) xs c ys k q)) s.active h.tickets.apart_both)
                   (λ q m p. begin m p)),
               tt,
             );
@@ -162,10 +162,10 @@ module _ (t : Table) where
       active' = (grant t s c).active
 
       i' : Item
-      i' = grantItem t s c
+      i' = grant_item t s c
 
       may : MayGrant t s c
-      may = grant-says t s ahead c ok
+      may = grant_says t s ahead c ok
 
       -- no item so far granted this ticket
       New : Item → Type 0
@@ -183,21 +183,21 @@ module _ (t : Table) where
           let old = b q m p in
           record {
             z = old.z;
-            share = λ a. old.share a + gapOn f a (kind_of t c) c.value;
+            share = λ a. old.share a + gap_on f a (kind_of t c) c.value;
             told = old.told;
-            held = covered-grant t s c m i.carried r old.z old.share p never stay old.held;
+            held = covered_grant t s c m i.carried r old.z old.share p never stay old.held;
           }
 
-      begin : (m : ℕ) → kind_of t c ≡ reads m → Bears f' active' m i' (asGranted t s c)
+      begin : (m : ℕ) → kind_of t c ≡ reads m → Bears f' active' m i' (as_granted t s c)
       begin m p =
           record {
             z = λ a. (attr f a).value;
-            share = λ a. share_of t a f s.active + gapOn f a (kind_of t c) c.value;
+            share = λ a. share_of t a f s.active + gap_on f a (kind_of t c) c.value;
             told = refl;
             held =
                 subst
                 (λ (e : ℕ).
-                Covered t f' active' m e (asGranted t s c) (λ a. (attr f a).value) (λ a. share_of t a f s.active + gapOn f a (kind_of t c) c.value))
-                (sym (ap (carriedBy f) p))
-                (covered_start t s c m p may.noNever (subst (λ (k : Kind). total t s c ≤ limitBy f k c.error) p may.inLimit));
+                Covered t f' active' m e (as_granted t s c) (λ a. (attr f a).value) (λ a. share_of t a f s.active + gap_on f a (kind_of t c) c.value))
+                (sym (ap (carried_by f) p))
+                (covered_start t s c m p may.no_never (subst (λ (k : Kind). total t s c ≤ limit_by f k c.error) p may.in_limit));
           }

@@ -3,7 +3,7 @@ use Rattle.std.specs.Prelude.{ℕ, ◌≤◌, ◌<◌, false, List, [], ◌∷�
 use Rattle.law.specs.declared.Claim.{Claim}
 use Rattle.law.specs.Fields.{FieldsFit, OwnExceeds}
 use Rattle.law.specs.Types.{Table, Disk, Asked}
-use Rattle.law.specs.Calls.{asked, grantedAtOnce}
+use Rattle.law.specs.Calls.{asked, granted_at_once}
 use Rattle.law.specs.History.{Call, claims, releases}
 use Rattle.law.specs.Base.{All}
 use Rattle.law.specs.Entries.{kind_at}
@@ -23,29 +23,29 @@ abbrev pub Lacks : ℕ → List Claim → Type 0
 Lacks n ws = All (λ w. w.ticket ≡ n → ⊥) ws
 
 -- An open: a limit out of range.
-abbrev pub openSentences : ℕ → ℕ → List Sentence
-openSentences l0 l1 = record { number = 17; says = (l0 ≤ 2_000_000_000) × (l1 ≤ 2_000_000_000) → ⊥ } ∷ []
+abbrev pub open_sentences : ℕ → ℕ → List Sentence
+open_sentences l0 l1 = record { number = 17; says = (l0 ≤ 2_000_000_000) × (l1 ≤ 2_000_000_000) → ⊥ } ∷ []
 
 -- A claim: now below the disk's clock; an unknown method; a field out of range; a write's own error over its attribute's limit;
 -- no ticket left; it would wait while 8 wait.
-abbrev pub claimSentences : Table → Disk → Asked → List Sentence
-claimSentences t d q =
+abbrev pub claim_sentences : Table → Disk → Asked → List Sentence
+claim_sentences t d q =
     record { number = 15; says = q.now < d.core.clock }
     ∷ record { number = 16; says = length t.kinds ≤ q.method }
     ∷ record { number = 17; says = FieldsFit q.now (kind_at t q.method) (asked d q) → ⊥ }
     ∷ record { number = 18; says = OwnExceeds d.core.figures (kind_at t q.method) q.error }
     ∷ record { number = 19; says = 999_999 < d.next }
-    ∷ record { number = 20; says = (grantedAtOnce t d q ≡ false) × (8 ≤ length d.waiting) }
+    ∷ record { number = 20; says = (granted_at_once t d q ≡ false) × (8 ≤ length d.waiting) }
     ∷ []
 
 -- A release: now below the disk's clock; a ticket neither active nor waiting.
-abbrev pub releaseSentences : Disk → ℕ → ℕ → List Sentence
-releaseSentences d now n =
+abbrev pub release_sentences : Disk → ℕ → ℕ → List Sentence
+release_sentences d now n =
     record { number = 15; says = now < d.core.clock }
     ∷ record { number = 21; says = Lacks n d.core.active × Lacks n d.waiting }
     ∷ []
 
 -- The sentences of a call on an open disk.
-abbrev pub sentencesOf : Table → Disk → Call → List Sentence
-sentencesOf t d (claims q) = claimSentences t d q
-sentencesOf t d (releases now n) = releaseSentences d now n
+abbrev pub sentences_of : Table → Disk → Call → List Sentence
+sentences_of t d (claims q) = claim_sentences t d q
+sentences_of t d (releases now n) = release_sentences d now n

@@ -1,12 +1,12 @@
 -- How a situation is written down: requests, the steps after an open, the expected result of each step, and the test of a situation.
 use Rattle.std.specs.Prelude.{ℕ, Bool, true, false, ◌&&◌, List, [], ◌∷◌, eqb, ℤ, pos, neg_ℤ}
-use Rattle.num.specs.Bits.{hasBit}
+use Rattle.num.specs.Bits.{has_bit}
 use Rattle.num.specs.Metric.{dist}
-use Rattle.law.specs.Base.{allTrue, any_of}
+use Rattle.law.specs.Base.{all_true, any_of}
 use Rattle.law.specs.Types.{Asked, Item, Outcome, refused, accepted}
-use Rattle.law.specs.Granting.{preconditions, total, lockStep, bars, granted, grant, grantItem}
-use Rattle.law.specs.Calls.{opened, openDisk, claim, release, finish, turn, passOver}
-use Rattle.law.specs.DiskType.{diskTable}
+use Rattle.law.specs.Granting.{preconditions, total, lock_step, bars, granted, grant, grant_item}
+use Rattle.law.specs.Calls.{opened, open_disk, claim, release, finish, turn, pass_over}
+use Rattle.law.specs.DiskType.{disk_table}
 use Rattle.law.specs.History.{Call, History, begun, after, answered}
 
 -- ---- requests
@@ -20,26 +20,26 @@ request now m p flag second z e =
 abbrev pub asks : ℕ → ℤ → ℕ → Asked
 asks m z e = request 0 m 5 0 0 z e
 
-abbrev pub reportUsed : ℕ → ℕ → Asked
-reportUsed z own = asks 0 (pos z) own
+abbrev pub report_used : ℕ → ℕ → Asked
+report_used z own = asks 0 (pos z) own
 
-abbrev pub addPromised : ℤ → ℕ → Asked
-addPromised d own = asks 1 d own
+abbrev pub add_promised : ℤ → ℕ → Asked
+add_promised d own = asks 1 d own
 
-abbrev pub setPromised : ℕ → ℕ → Asked
-setPromised z own = asks 2 (pos z) own
+abbrev pub set_promised : ℕ → ℕ → Asked
+set_promised z own = asks 2 (pos z) own
 
-abbrev pub setState : ℕ → Asked
-setState z = asks 3 (pos z) 0
+abbrev pub set_state : ℕ → Asked
+set_state z = asks 3 (pos z) 0
 
-abbrev pub readUsed : ℕ → Asked
-readUsed stated = asks 4 (pos 0) stated
+abbrev pub read_used : ℕ → Asked
+read_used stated = asks 4 (pos 0) stated
 
-abbrev pub readLoad : ℕ → Asked
-readLoad stated = asks 5 (pos 0) stated
+abbrev pub read_load : ℕ → Asked
+read_load stated = asks 5 (pos 0) stated
 
-abbrev pub readState : ℕ → Asked
-readState stated = asks 6 (pos 0) stated
+abbrev pub read_state : ℕ → Asked
+read_state stated = asks 6 (pos 0) stated
 
 abbrev pub minus : ℕ → ℤ
 minus n = neg_ℤ (pos n)
@@ -104,7 +104,7 @@ usual steps = opening 0 1_000 1_000 steps
 -- The item shows the line.
 abbrev shows : Line → Item → Bool
 shows l i =
-    allTrue
+    all_true
     (eqb i.code l.code
     ∷ eqb i.ticket l.ticket
     ∷ eqb (dist i.told l.told) 0
@@ -112,16 +112,16 @@ shows l i =
     ∷ [])
 
 -- The items show these lines and no others.
-abbrev showsAll : List Line → List Item → Bool
-showsAll [] [] = true
-showsAll [] (i ∷ items) = false
-showsAll (l ∷ ls) [] = false
-showsAll (l ∷ ls) (i ∷ items) = shows l i && showsAll ls items
+abbrev shows_all : List Line → List Item → Bool
+shows_all [] [] = true
+shows_all [] (i ∷ items) = false
+shows_all (l ∷ ls) [] = false
+shows_all (l ∷ ls) (i ∷ items) = shows l i && shows_all ls items
 
 -- The call is accepted, and its answer shows these lines.
 abbrev answers : List Line → Outcome → Bool
 answers ls (refused n) = false
-answers ls (accepted d items) = showsAll ls items
+answers ls (accepted d items) = shows_all ls items
 
 -- The outcome is the one expected. Codes: 1 waits, 2 released.
 abbrev meets : Expected → Outcome → Bool
@@ -135,21 +135,21 @@ meets (refuses n) (accepted d items) = false
 abbrev bearing : History → ℕ → ℤ → ℕ → Bool
 bearing h n told amount =
     any_of
-    (λ w. allTrue (eqb w.ticket n ∷ eqb (dist w.told told) 0 ∷ eqb w.amount amount ∷ []))
+    (λ w. all_true (eqb w.ticket n ∷ eqb (dist w.told told) 0 ∷ eqb w.amount amount ∷ []))
     h.disk.core.active
 
 -- The figures carried that error when ticket n was granted.
 abbrev carrying : History → ℕ → ℕ → Bool
-carrying h n error = any_of (λ i. allTrue (eqb i.code 0 ∷ eqb i.ticket n ∷ eqb i.carried error ∷ [])) h.past
+carrying h n error = any_of (λ i. all_true (eqb i.code 0 ∷ eqb i.ticket n ∷ eqb i.carried error ∷ [])) h.past
 
 -- Each step from a history goes as expected.
 abbrev goes : History → List Step → Bool
 goes h [] = true
-goes h ((k ⇒ e) ∷ steps) = meets e (answered diskTable h.disk k) && goes (after h (answered diskTable h.disk k)) steps
+goes h ((k ⇒ e) ∷ steps) = meets e (answered disk_table h.disk k) && goes (after h (answered disk_table h.disk k)) steps
 goes h (bears n told amount ∷ steps) = bearing h n told amount && goes h steps
 goes h (carries n error ∷ steps) = carrying h n error && goes h steps
 
 -- The disk is opened, with code 3, and each step goes as expected.
 unfoldable pub holds : Situation → Bool
-unfolding opened openDisk claim release finish turn passOver preconditions total lockStep bars granted grant grantItem diskTable dist hasBit
-holds (opening now l0 l1 steps) = answers (only 3 0 ∷ []) (openDisk now l0 l1) && goes (begun now l0 l1) steps
+unfolding opened open_disk claim release finish turn pass_over preconditions total lock_step bars granted grant grant_item disk_table dist has_bit
+holds (opening now l0 l1 steps) = answers (only 3 0 ∷ []) (open_disk now l0 l1) && goes (begun now l0 l1) steps

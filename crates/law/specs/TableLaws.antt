@@ -1,32 +1,32 @@
 -- Laws of the disk's table: the constant of 49 entries equals the rule by kinds, and it is symmetric.
 use Rattle.std.specs.Prelude.{ℕ, zero, suc, ◌+◌, ◌<◌, List, [], ◌∷◌, map, ◌≡◌, refl, get_or, length}
 use Rattle.std.proofs.Common.{le_of_suc-le-suc, not-suc-le-zero, zero-add, arith, ap, ◌∙◌}
-use Rattle.num.specs.Bits.{hasBit}
+use Rattle.num.specs.Bits.{has_bit}
 use Rattle.law.specs.declared.Entry.{Entry}
 use Rattle.law.specs.declared.Entry.TheVariants.{A}
 use Rattle.law.specs.Types.{reads}
-use Rattle.law.specs.DiskType.{diskTable, diskEntries}
-use Rattle.law.specs.Entries.{entryBy, kind_at}
+use Rattle.law.specs.DiskType.{disk_table, disk_entries}
+use Rattle.law.specs.Entries.{entry_by, kind_at}
 
 -- The entry of an active and a requested method, looked up in the constant.
 abbrev pub entry_at : ℕ → ℕ → Entry
-entry_at active requested = get_or (get_or diskEntries active []) requested A
+entry_at active requested = get_or (get_or disk_entries active []) requested A
 
 -- Methods 0 to 6.
-pub disk-methods : length diskTable.kinds ≡ 7
-unfolding diskTable
-disk-methods = refl
+pub disk_methods : length disk_table.kinds ≡ 7
+unfolding disk_table
+disk_methods = refl
 
 -- ---- the two computed tests of the whole table
 
 -- The table by the rule: a row for each active method, in it an entry for each requested one.
-abbrev pub byKinds : List (List Entry)
-byKinds = map (λ active. map (entryBy active) diskTable.kinds) diskTable.kinds
+abbrev pub by_kinds : List (List Entry)
+by_kinds = map (λ active. map (entry_by active) disk_table.kinds) disk_table.kinds
 
 -- The constant equals the rule by kinds, for all 49 pairs.
-pub table-by-kinds : diskEntries ≡ byKinds
-unfolding diskEntries diskTable hasBit
-table-by-kinds = refl
+pub table_by_kinds : disk_entries ≡ by_kinds
+unfolding disk_entries disk_table has_bit
+table_by_kinds = refl
 
 -- The n numbers from k on.
 abbrev numbers : ℕ → ℕ → List ℕ
@@ -35,12 +35,12 @@ numbers k (suc n) = k ∷ numbers (suc k) n
 
 -- The columns of the table, each as a row.
 abbrev pub columns : List (List Entry)
-columns = map (λ requested. map (λ row. get_or row requested A) diskEntries) (numbers 0 7)
+columns = map (λ requested. map (λ row. get_or row requested A) disk_entries) (numbers 0 7)
 
 -- The table is symmetric.
-pub table-symmetric : diskEntries ≡ columns
-unfolding diskEntries
-table-symmetric = refl
+pub table_symmetric : disk_entries ≡ columns
+unfolding disk_entries
+table_symmetric = refl
 
 -- ---- what they say of each entry
 
@@ -58,20 +58,20 @@ number_at k (suc n) zero h = omega arith
 number_at k (suc n) (suc i) h = omega (arith, number_at (suc k) n i (le_of_suc-le-suc h))
 
 -- Each entry is what the rule gives for the kinds of its two methods.
-pub disk-entry : (m n : ℕ) → m < 7 → n < 7 → entry_at m n ≡ entryBy (kind_at diskTable m) (kind_at diskTable n)
-unfolding diskTable
-disk-entry m n hm hn =
-    ap (λ (rows : List (List Entry)). get_or (get_or rows m []) n A) table-by-kinds
+pub disk_entry : (m n : ℕ) → m < 7 → n < 7 → entry_at m n ≡ entry_by (kind_at disk_table m) (kind_at disk_table n)
+unfolding disk_table
+disk_entry m n hm hn =
+    ap (λ (rows : List (List Entry)). get_or (get_or rows m []) n A) table_by_kinds
     ∙ ap (λ (row : List Entry). get_or row n A)
-    (get_d_map (λ active. map (entryBy active) diskTable.kinds) diskTable.kinds m (reads 0) [] hm)
-    ∙ get_d_map (entryBy (kind_at diskTable m)) diskTable.kinds n (reads 0) A hn
+    (get_d_map (λ active. map (entry_by active) disk_table.kinds) disk_table.kinds m (reads 0) [] hm)
+    ∙ get_d_map (entry_by (kind_at disk_table m)) disk_table.kinds n (reads 0) A hn
 
 -- It makes no difference which of the two methods is active and which is requested.
-pub disk-symmetric : (m n : ℕ) → m < 7 → n < 7 → entry_at m n ≡ entry_at n m
-unfolding diskEntries
-disk-symmetric m n hm hn =
-    ap (λ (rows : List (List Entry)). get_or (get_or rows m []) n A) table-symmetric
+pub disk_symmetric : (m n : ℕ) → m < 7 → n < 7 → entry_at m n ≡ entry_at n m
+unfolding disk_entries
+disk_symmetric m n hm hn =
+    ap (λ (rows : List (List Entry)). get_or (get_or rows m []) n A) table_symmetric
     ∙ ap (λ (row : List Entry). get_or row n A)
-    (get_d_map (λ requested. map (λ row. get_or row requested A) diskEntries) (numbers 0 7) m 0 [] hm)
-    ∙ get_d_map (λ row. get_or row (get_or (numbers 0 7) m 0) A) diskEntries n [] A hn
-    ∙ ap (λ (i : ℕ). get_or (get_or diskEntries n []) i A) (number_at 0 7 m hm ∙ zero-add m)
+    (get_d_map (λ requested. map (λ row. get_or row requested A) disk_entries) (numbers 0 7) m 0 [] hm)
+    ∙ get_d_map (λ row. get_or row (get_or (numbers 0 7) m 0) A) disk_entries n [] A hn
+    ∙ ap (λ (i : ℕ). get_or (get_or disk_entries n []) i A) (number_at 0 7 m hm ∙ zero-add m)

@@ -1,38 +1,38 @@
 -- What the rules speak of: attributes, methods, claims, disks, requests and answers.
 use Rattle.std.specs.Prelude.{ℕ, Bool, true, false, cond, not, ◌&&◌, ◌≡◌, List, ℤ, pos}
-use Rattle.num.specs.Bits.{hasBit}
-use Rattle.law.specs.Base.{everyOf}
+use Rattle.num.specs.Bits.{has_bit}
+use Rattle.law.specs.Base.{every_of}
 use Rattle.law.specs.declared.Attr.{Attr}
 use Rattle.law.specs.declared.Claim.{Claim}
 
 -- ---- 01's numbers
 
 -- Values of attributes 0 and 1, and amounts to add, lie within ± this.
-abbrev pub mostValue : ℕ
-mostValue = 1_000_000_000
+abbrev pub most_value : ℕ
+most_value = 1_000_000_000
 
 -- Limits, own errors, amounts and stated limits run from 0 to this; a told sum lies within ± this.
-abbrev pub mostError : ℕ
-mostError = 2_000_000_000
+abbrev pub most_error : ℕ
+most_error = 2_000_000_000
 
 -- A state is a code from 0 to this.
-abbrev pub mostState : ℕ
-mostState = 255
+abbrev pub most_state : ℕ
+most_state = 255
 
 -- A record's priority runs from 0 to 255, its fresh flag from 0 to 1.
-abbrev pub mostPriority : ℕ
-mostPriority = 255
+abbrev pub most_priority : ℕ
+most_priority = 255
 
-abbrev pub mostFlag : ℕ
-mostFlag = 1
+abbrev pub most_flag : ℕ
+most_flag = 1
 
 -- At most this many claims of a disk are active, and at most this many wait.
 abbrev pub places : ℕ
 places = 8
 
 -- Tickets run from 1 to this.
-abbrev pub lastTicket : ℕ
-lastTicket = 999_999
+abbrev pub last_ticket : ℕ
+last_ticket = 999_999
 
 -- ---- the type of a disk
 
@@ -70,7 +70,7 @@ pub data Kind : Type 0 where
 
 -- Whether attribute a is in the mask.
 abbrev pub within : ℕ → Attribute → Bool
-within mask a = hasBit mask (bit_of a)
+within mask a = has_bit mask (bit_of a)
 
 -- A disk type: the kind of each method, and `valid flag a`, the seconds for which attribute a is fresh to a reading with that flag.
 pub record Table : Type 0 where
@@ -79,13 +79,13 @@ pub record Table : Type 0 where
 
 -- The kinds a proper disk type may have: any set, an add to a metric attribute, a reading of
 -- metric attributes, a reading of the state alone.
-abbrev pub properKind : Kind → Bool
-properKind (sets a) = true
-properKind (adds a) = metric a
-properKind (reads m) = cond (within m a2) (not (within m a0) && not (within m a1)) true
+abbrev pub proper_kind : Kind → Bool
+proper_kind (sets a) = true
+proper_kind (adds a) = metric a
+proper_kind (reads m) = cond (within m a2) (not (within m a0) && not (within m a1)) true
 
 pub record Proper (t : Table) : Type 0 where
-  pub proper : everyOf properKind t.kinds ≡ true
+  pub proper : every_of proper_kind t.kinds ≡ true
 
 -- ---- figures and claims
 
@@ -100,10 +100,10 @@ attr f a1 = f.f1
 attr f a2 = f.f2
 
 -- The figures with attribute a replaced by x.
-abbrev pub putAttr : Figures → Attribute → Attr → Figures
-putAttr f a0 x = record { f0 = x; f1 = f.f1; f2 = f.f2 }
-putAttr f a1 x = record { f0 = f.f0; f1 = x; f2 = f.f2 }
-putAttr f a2 x = record { f0 = f.f0; f1 = f.f1; f2 = x }
+abbrev pub put_attr : Figures → Attribute → Attr → Figures
+put_attr f a0 x = record { f0 = x; f1 = f.f1; f2 = f.f2 }
+put_attr f a1 x = record { f0 = f.f0; f1 = x; f2 = f.f2 }
+put_attr f a2 x = record { f0 = f.f0; f1 = f.f1; f2 = x }
 
 -- What a decision looks at: the clock (set to now before the decision), the figures, and the active claims in the order of their grants.
 pub record Core : Type 0 where

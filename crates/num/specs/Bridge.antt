@@ -27,15 +27,15 @@ unfolding up down
 abs_is (pos n) = omega arith
 abs_is (negsuc n) = omega arith
 
-pub up-mag : (z : ℤ) → up z ≤ mag z
+pub up_mag : (z : ℤ) → up z ≤ mag z
 unfolding up
-up-mag (pos n) = omega arith
-up-mag (negsuc n) = omega arith
+up_mag (pos n) = omega arith
+up_mag (negsuc n) = omega arith
 
-pub down-mag : (z : ℤ) → down z ≤ suc (mag z)
+pub down_mag : (z : ℤ) → down z ≤ suc (mag z)
 unfolding down
-down-mag (pos n) = omega arith
-down-mag (negsuc n) = omega arith
+down_mag (pos n) = omega arith
+down_mag (negsuc n) = omega arith
 
 -- Two integers with equal `up` − `down` are equal.
 pub same : (a b : ℤ) → up a + down b ≡ up b + down a → a ≡ b
@@ -46,17 +46,17 @@ same (negsuc m) (pos n) e = absurd (omega arith)
 same (negsuc m) (negsuc n) e = ap negsuc (omega arith)
 
 -- The difference a − b of two naturals, by the test a < b.
-less-is : (t : Bool) (a b : ℕ) → ltb a b ≡ t →
+less_is : (t : Bool) (a b : ℕ) → ltb a b ≡ t →
     up (cond t (negsuc (b - suc a)) (pos (a - b))) + b ≡ down (cond t (negsuc (b - suc a)) (pos (a - b))) + a
 unfolding up down
-less-is true a b e = omega (arith, ltb-true a b e)
-less-is false a b e = omega (arith, ltb-false a b e)
+less_is true a b e = omega (arith, ltb-true a b e)
+less_is false a b e = omega (arith, ltb-false a b e)
 
 pub add_is : (a b : ℤ) → up (a +ℤ b) + (down a + down b) ≡ down (a +ℤ b) + (up a + up b)
 unfolding up down
 add_is (pos m) (pos n) = omega arith
-add_is (pos m) (negsuc n) = omega (arith, less-is (ltb m (suc n)) m (suc n) refl)
-add_is (negsuc m) (pos n) = omega (arith, less-is (ltb n (suc m)) n (suc m) refl)
+add_is (pos m) (negsuc n) = omega (arith, less_is (ltb m (suc n)) m (suc n) refl)
+add_is (negsuc m) (pos n) = omega (arith, less_is (ltb n (suc m)) n (suc m) refl)
 add_is (negsuc m) (negsuc n) = omega arith
 
 up_neg : (z : ℤ) → up (neg_ℤ z) ≡ down z
@@ -65,11 +65,11 @@ up_neg (pos zero) = refl
 up_neg (pos (suc n)) = refl
 up_neg (negsuc n) = refl
 
-down-neg : (z : ℤ) → down (neg_ℤ z) ≡ up z
+down_neg : (z : ℤ) → down (neg_ℤ z) ≡ up z
 unfolding up down
-down-neg (pos zero) = refl
-down-neg (pos (suc n)) = refl
-down-neg (negsuc n) = refl
+down_neg (pos zero) = refl
+down_neg (pos (suc n)) = refl
+down_neg (negsuc n) = refl
 
 pub sub_is : (a b : ℤ) → up (a -ℤ b) + (down a + up b) ≡ down (a -ℤ b) + (up a + down b)
-sub_is a b = omega (arith, add_is a (neg_ℤ b), up_neg b, down-neg b)
+sub_is a b = omega (arith, add_is a (neg_ℤ b), up_neg b, down_neg b)

@@ -34,13 +34,13 @@ count_none p zero h = refl
 count_none p (suc n) h = rw (count_none p n (λ i k. h i (omega arith)), h n (omega arith))
 
 -- A test that passes one number more counts one more.
-pub count-one-more : (p q : ℕ → Bool) (n d : ℕ) → d < n → p d ≡ false → q d ≡ true →
+pub count_one_more : (p q : ℕ → Bool) (n d : ℕ) → d < n → p d ≡ false → q d ≡ true →
     ((i : ℕ) → i < n → i ≢ d → q i ≡ p i) → count_to q n ≡ count_to p n + 1
 unfolding count_to
-count-one-more p q zero d k f t h = absurd (omega arith)
-count-one-more p q (suc n) d k f t h =
+count_one_more p q zero d k f t h = absurd (omega arith)
+count_one_more p q (suc n) d k f t h =
     let below : d ≤ n = omega arith in
     ⊎_elim
     (λ (e : d ≡ n). rw (count_same q p n (λ i l. h i (omega arith) (λ j. omega arith)), rw e at f, rw e at t) (omega arith))
-    (λ (l : d < n). rw (count-one-more p q n d l f t (λ i b. h i (omega arith)), h n (omega arith) (λ e. omega arith)) (omega arith))
+    (λ (l : d < n). rw (count_one_more p q n d l f t (λ i b. h i (omega arith)), h n (omega arith) (λ e. omega arith)) (omega arith))
     (eq-or-lt_of_le below)

@@ -16,6 +16,6 @@ unfoldable pub splice : List ℕ → ℕ → List ℕ → List ℕ
 splice l i vs = sets l i vs
 
 -- Every byte of a list is zero.
-unfoldable pub allZero : List ℕ → Bool
-allZero [] = true
-allZero (x ∷ xs) = eqb x 0 && allZero xs
+unfoldable pub all_zero : List ℕ → Bool
+all_zero [] = true
+all_zero (x ∷ xs) = eqb x 0 && all_zero xs

@@ -1,12 +1,12 @@
 // The bits of a mask.
 
 ghost use Rattle.std.specs.Prelude.{◌≡◌, ◌%◌, ◌^◌, ◌<◌};
-ghost use Rattle.num.specs.Bits.{hasBit, shares};
+ghost use Rattle.num.specs.Bits.{has_bit, shares};
 
 // Whether bit a of a mask is set.
 pub fn bit(mask: u8, a: u8) -> bool
     requires { a < 8 }
-    ensures { result ≡ hasBit mask a }
+    ensures { result ≡ has_bit mask a }
 {
     (mask >> a) & 1 == 1
 }

@@ -1,7 +1,7 @@
 // The open word: eight bytes, one bit for each disk, set if the disk is open.
 
 ghost use Rattle.std.specs.Prelude.{◌≡◌, ◌≤◌, ◌<◌, length};
-ghost use Rattle.num.specs.Opened.{open_at, setOpen, openCount, openWord};
+ghost use Rattle.num.specs.Opened.{open_at, set_open, open_count, open_word};
 
 use crate::bits::bit;
 use crate::word::word_at;
@@ -19,7 +19,7 @@ pub fn is_open(s: &[u8], d: usize) -> bool
 pub fn set_open(s: &mut [u8], d: usize)
     requires d_bound { d < 64 }
     requires in_bounds { 8 ≤ length s.old }
-    ensures { s.new ≡ setOpen s.old d }
+    ensures { s.new ≡ set_open s.old d }
 {
     s[d / 8] = s[d / 8] | 1 << (d % 8);
 }
@@ -27,7 +27,7 @@ pub fn set_open(s: &mut [u8], d: usize)
 // How many disks are open.
 pub fn open_count(s: &[u8]) -> u32
     requires { 8 ≤ length s.now }
-    ensures value { result ≡ openCount s.now }
+    ensures value { result ≡ open_count s.now }
     ensures upper_bound { result ≤ 64 }
 {
     u64::count_ones(open_word(s))
@@ -36,7 +36,7 @@ pub fn open_count(s: &[u8]) -> u32
 // The eight bytes as one number.
 pub(crate) fn open_word(s: &[u8]) -> u64
     requires { 8 ≤ length s.now }
-    ensures { result ≡ openWord s.now }
+    ensures { result ≡ open_word s.now }
 {
     word_at(s, 0) as u64 + word_at(s, 4) as u64 * 4294967296
 }

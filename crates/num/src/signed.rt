@@ -2,7 +2,7 @@
 
 ghost use Rattle.std.specs.Prelude.{◌≡◌, ◌+◌, ◌^◌, ◌≤◌, ◌<◌, leb, ◌+ℤ◌, length};
 ghost use Rattle.num.specs.Metric.{size, dist};
-ghost use Rattle.num.specs.Signed.{signed_of, word_of, signedAt, putSigned};
+ghost use Rattle.num.specs.Signed.{signed_of, word_of, signed_at, put_signed};
 
 use crate::word::{put_word, word_at};
 
@@ -31,7 +31,7 @@ pub fn to_word(z: i32) -> u32
 // The figure at an index.
 pub fn signed_at(s: &[u8], at: usize) -> i32
     requires { at + 4 ≤ length s.now }
-    ensures { result ≡ signedAt s.now at }
+    ensures { result ≡ signed_at s.now at }
 {
     to_signed(word_at(s, at))
 }
@@ -39,7 +39,7 @@ pub fn signed_at(s: &[u8], at: usize) -> i32
 // Puts a figure at an index.
 pub fn put_signed(s: &mut [u8], at: usize, z: i32)
     requires { at + 4 ≤ length s.old }
-    ensures { s.new ≡ putSigned s.old at z }
+    ensures { s.new ≡ put_signed s.old at z }
 {
     put_word(s, at, to_word(z));
 }

@@ -1,12 +1,12 @@
 // A word of four bytes in lent bytes, lowest byte first.
 
 ghost use Rattle.std.specs.Prelude.{◌≡◌, ◌+◌, ◌≤◌, length};
-ghost use Rattle.num.specs.Word.{word4, wordAt, putWord};
+ghost use Rattle.num.specs.Word.{word4, word_at, put_word};
 
 // The word at an index.
 pub fn word_at(s: &[u8], at: usize) -> u32
     requires { at + 4 ≤ length s.now }
-    ensures { result ≡ wordAt s.now at }
+    ensures { result ≡ word_at s.now at }
 {
     word4(s[at], s[at + 1], s[at + 2], s[at + 3])
 }
@@ -21,7 +21,7 @@ fn word4(a: u8, b: u8, c: u8, d: u8) -> u32
 // Puts a word at an index.
 pub fn put_word(s: &mut [u8], at: usize, x: u32)
     requires { at + 4 ≤ length s.old }
-    ensures { s.new ≡ putWord s.old at x }
+    ensures { s.new ≡ put_word s.old at x }
 {
     s[at] = (x % 256) as u8;
     s[at + 1] = (x / 256 % 256) as u8;

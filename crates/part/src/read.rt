@@ -1,8 +1,8 @@
 // The figures and claims of a part, read where they stand.
 
 ghost use Rattle.std.specs.Prelude.{◌≡◌, ◌+◌, ◌≤◌, ◌<◌, length, take, drop, get_or};
-ghost use Rattle.rules.specs.Rows.{noClaim};
-ghost use Rattle.part.specs.Layout.{claimIn, slots, attrAt, stateIn, decode};
+ghost use Rattle.rules.specs.Rows.{no_claim};
+ghost use Rattle.part.specs.Layout.{claim_in, slots, attr_at, state_in, decode};
 
 use crate::layout::{
     ACTIVE_AT, ACTIVES_AT, AMOUNT_IN, CLOCK_AT, LIMIT_IN, NEXT_AT, PROMISED_AT, SLOT_AMOUNT,
@@ -68,7 +68,7 @@ pub fn state_at(s: &[u8]) -> Attr
 pub fn active_at(s: &[u8], i: usize) -> Claim
     requires s_len { length s.now ≡ 768 }
     requires i_bound { i < 8 }
-    ensures { result ≡ get_or (decode s.now).active i noClaim }
+    ensures { result ≡ get_or (decode s.now).active i no_claim }
 {
     claim_at(s, ACTIVE_AT + SLOT_BYTES * i)
 }
@@ -76,7 +76,7 @@ pub fn active_at(s: &[u8], i: usize) -> Claim
 pub fn waiting_at(s: &[u8], i: usize) -> Claim
     requires s_len { length s.now ≡ 768 }
     requires i_bound { i < 8 }
-    ensures { result ≡ get_or (decode s.now).waiting i noClaim }
+    ensures { result ≡ get_or (decode s.now).waiting i no_claim }
 {
     claim_at(s, WAITING_AT + SLOT_BYTES * i)
 }
@@ -84,7 +84,7 @@ pub fn waiting_at(s: &[u8], i: usize) -> Claim
 // The four figures of used or promised.
 fn attr_at(s: &[u8], at: usize) -> Attr
     requires { at + 16 ≤ length s.now }
-    ensures { result ≡ attrAt s.now at }
+    ensures { result ≡ attr_at s.now at }
 {
     Attr {
         value: signed_at(s, at),
@@ -97,7 +97,7 @@ fn attr_at(s: &[u8], at: usize) -> Attr
 // The state's two.
 fn state_in(s: &[u8], at: usize) -> Attr
     requires { at + 8 ≤ length s.now }
-    ensures { result ≡ stateIn s.now at }
+    ensures { result ≡ state_in s.now at }
 {
     Attr {
         value: signed_at(s, at),
@@ -110,7 +110,7 @@ fn state_in(s: &[u8], at: usize) -> Attr
 // The claim of the slot at an index.
 pub fn claim_at(s: &[u8], at: usize) -> Claim
     requires { at + 44 ≤ length s.now }
-    ensures { result ≡ claimIn (take 44 (drop at s.now)) }
+    ensures { result ≡ claim_in (take 44 (drop at s.now)) }
 {
     claim_in(&s[at..at + SLOT_BYTES])
 }
@@ -118,7 +118,7 @@ pub fn claim_at(s: &[u8], at: usize) -> Claim
 // The claim in the bytes of a slot.
 fn claim_in(s: &[u8]) -> Claim
     requires { length s.now ≡ 44 }
-    ensures { result ≡ claimIn s.now }
+    ensures { result ≡ claim_in s.now }
 {
     Claim {
         ticket: word_at(s, SLOT_TICKET),

@@ -1,7 +1,7 @@
 // Whether a part decodes: every byte that carries no figure is zero.
 
 ghost use Rattle.std.specs.Prelude.{◌≡◌, ◌+◌, ◌*◌, ◌-◌, ◌≤◌, length};
-ghost use Rattle.part.specs.Layout.{zeroAt, spareZero, slotsWhole, decodes};
+ghost use Rattle.part.specs.Layout.{zero_at, spare_zero, slots_whole, decodes};
 
 use crate::layout::{
     ACTIVE_AT, ACTIVES_AT, HEAD_SPARE_AT, PART_BYTES, SLOT_BYTES, SLOT_SPARE, SLOTS_BYTES,
@@ -44,7 +44,7 @@ pub fn decodes(s: &[u8]) -> bool
 // knows the range behind the claims.
 fn slots_whole(s: &[u8], at: usize, n: u32) -> bool
     requires { at + 352 ≤ length s.now }
-    ensures { result ≡ slotsWhole s.now at n }
+    ensures { result ≡ slots_whole s.now at n }
 {
     match n {
         0 => claims_then_zero(s, at, 0, 0),
@@ -66,7 +66,7 @@ fn claims_then_zero(s: &[u8], at: usize, n: usize, words: usize) -> bool
     requires at_in_bounds { at + 352 ≤ length s.now }
     requires n_bound { n ≤ 8 }
     requires words_bound { 44 * n + 4 * words ≤ 352 }
-    ensures { result ≡ slotsWhole s.now at n }
+    ensures { result ≡ slots_whole s.now at n }
 {
     both(
         spare_zero(s, at, n),
@@ -77,7 +77,7 @@ fn claims_then_zero(s: &[u8], at: usize, n: usize, words: usize) -> bool
 // Whether the two words behind the figures are zero in each of `n` slots: all are joined, and tested once.
 fn spare_zero(s: &[u8], at: usize, n: usize) -> bool
     requires { at + 44 * n ≤ length s.now }
-    ensures { result ≡ spareZero s.now at n }
+    ensures { result ≡ spare_zero s.now at n }
 {
     let mut all: u32 = 0;
     let mut i: usize = 0;
@@ -93,7 +93,7 @@ fn spare_zero(s: &[u8], at: usize, n: usize) -> bool
 fn zero_from(s: &[u8], from: usize, words: usize, to: usize) -> bool
     requires words_bound { from + 4 * words ≤ to }
     requires to_in_bounds { to ≤ length s.now }
-    ensures { result ≡ zeroAt s.now from (to - from) }
+    ensures { result ≡ zero_at s.now from (to - from) }
 {
     both(
         zero_words(s, from, words),
@@ -104,7 +104,7 @@ fn zero_from(s: &[u8], from: usize, words: usize, to: usize) -> bool
 // Whether `n` words are zero: all are joined, and tested once.
 fn zero_words(s: &[u8], at: usize, n: usize) -> bool
     requires { at + 4 * n ≤ length s.now }
-    ensures { result ≡ zeroAt s.now at (4 * n) }
+    ensures { result ≡ zero_at s.now at (4 * n) }
 {
     let mut all: u32 = 0;
     let mut i: usize = 0;
@@ -118,7 +118,7 @@ fn zero_words(s: &[u8], at: usize, n: usize) -> bool
 // Whether the bytes of a range are zero: all are looked at, so that many are looked at together.
 pub fn zero_between(s: &[u8], from: usize, to: usize) -> bool
     requires { to ≤ length s.now }
-    ensures { result ≡ zeroAt s.now from (to - from) }
+    ensures { result ≡ zero_at s.now from (to - from) }
 {
     let mut all: u8 = 0;
     let mut i = from;

@@ -2,7 +2,7 @@
 
 ghost use Rattle.std.specs.Prelude.{◌≡◌, ◌+◌, ◌*◌, ◌≤◌, ◌<◌, length};
 ghost use Rattle.num.specs.Runs.{flat, splice};
-ghost use Rattle.part.specs.Layout.{claimWords, inSlots, headWords, encode};
+ghost use Rattle.part.specs.Layout.{claim_words, in_slots, head_words, encode};
 
 use crate::layout::{ACTIVE_AT, SLOT_BYTES, WAITING_AT};
 use law::Claim;
@@ -25,7 +25,7 @@ pub fn put_disk(s: &mut [u8], d: Disk)
 
 // The words of the head.
 fn head_words(d: Disk) -> [u32; 16]
-    ensures { result ≡ headWords d }
+    ensures { result ≡ head_words d }
 {
     [
         d.clock,
@@ -50,7 +50,7 @@ fn head_words(d: Disk) -> [u32; 16]
 // Puts claims into their slots, one behind the other.
 pub(crate) fn put_claims(s: &mut [u8], at: usize, cs: [Claim; 8])
     requires { at + 352 ≤ length s.old }
-    ensures { s.new ≡ splice s.old at (inSlots cs) }
+    ensures { s.new ≡ splice s.old at (in_slots cs) }
 {
     let mut i: usize = 0;
     while i < 8 {
@@ -63,7 +63,7 @@ pub(crate) fn put_claims(s: &mut [u8], at: usize, cs: [Claim; 8])
 // Puts a claim into its slot.
 pub fn put_claim(s: &mut [u8], at: usize, c: Claim)
     requires { at + 44 ≤ length s.old }
-    ensures { s.new ≡ splice s.old at (flat (claimWords c)) }
+    ensures { s.new ≡ splice s.old at (flat (claim_words c)) }
 {
     let words = claim_words(c);
     put_words(s, at, &words);
@@ -71,7 +71,7 @@ pub fn put_claim(s: &mut [u8], at: usize, c: Claim)
 
 // The words of a slot.
 fn claim_words(c: Claim) -> [u32; 11]
-    ensures { result ≡ claimWords c }
+    ensures { result ≡ claim_words c }
 {
     [
         c.ticket,

@@ -3,17 +3,17 @@
 
 ghost use Rattle.std.specs.Prelude.{false, map, ◌≡◌, ◌+◌, ◌*◌, ◌≤◌, ◌<◌, length};
 ghost use Rattle.num.specs.Runs.{splice};
-ghost use Rattle.law.specs.Granting.{total as lawTotal, grantItem};
+ghost use Rattle.law.specs.Granting.{total as law_total, grant_item};
 ghost use Rattle.law.specs.GrantLaws.{MayGrant};
-ghost use Rattle.law.specs.Calls.{pass as lawPass};
-ghost use Rattle.law.specs.DiskType.{diskTable};
-ghost use Rattle.rules.specs.Disks.{coreIn, diskOf, DiskIs, grantOf, ToldFits};
-ghost use Rattle.rules.specs.Totals.{totalsOf};
+ghost use Rattle.law.specs.Calls.{pass as law_pass};
+ghost use Rattle.law.specs.DiskType.{disk_table};
+ghost use Rattle.rules.specs.Disks.{core_in, disk_of, DiskIs, grant_of, ToldFits};
+ghost use Rattle.rules.specs.Totals.{totals_of};
 ghost use Rattle.part.specs.Layout.{decode};
-ghost use Rattle.part.specs.Held.{held, partFor, HoldsDisk, HoldsSound};
-ghost use Rattle.answer.specs.Answers.{OwnOnly, Behind, itemBytes};
-ghost use Rattle.judge.specs.Decisions.{activesIn};
-ghost use Rattle.pass.specs.Turns.{grantAnswer, kept_at, TurnFits, Turned, closedAt, passedOf};
+ghost use Rattle.part.specs.Held.{held, part_for, HoldsDisk, HoldsSound};
+ghost use Rattle.answer.specs.Answers.{OwnOnly, Behind, item_bytes};
+ghost use Rattle.judge.specs.Decisions.{actives_in};
+ghost use Rattle.pass.specs.Turns.{grant_answer, kept_at, TurnFits, Turned, closed_at, passed_of};
 
 use answer::put_grant;
 use change::grant::grant;
@@ -49,14 +49,14 @@ fn keep(s: &mut [u8], i: usize, k: usize) -> usize
 // Grants c with its total; the grant stands in the buffer behind the call's own answer and n other grants.
 fn give(s: &mut [u8], answer: &mut [u8], n: usize, c: Claim, total: u32)
     requires holds_disk { HoldsDisk s.old }
-    requires may_grant { MayGrant diskTable (coreIn (decode s.old)) c }
+    requires may_grant { MayGrant disk_table (core_in (decode s.old)) c }
     requires told_fits { ToldFits (decode s.old) c }
-    requires total_value { total ≡ lawTotal diskTable (coreIn (decode s.old)) c }
+    requires total_value { total ≡ law_total disk_table (core_in (decode s.old)) c }
     requires answer_len { length answer.old ≡ 144 }
     requires n_bound { n < 8 }
     ensures holds_disk_2 { HoldsDisk s.new }
-    ensures disk_is { DiskIs (decode s.new) (grantOf (diskOf (decode s.old)) c) }
-    ensures answer_after { answer.new ≡ splice answer.old (16 + 16 * n) (itemBytes (grantAnswer (grantItem diskTable (coreIn (decode s.old)) c))) }
+    ensures disk_is { DiskIs (decode s.new) (grant_of (disk_of (decode s.old)) c) }
+    ensures answer_after { answer.new ≡ splice answer.old (16 + 16 * n) (item_bytes (grant_answer (grant_item disk_table (core_in (decode s.old)) c))) }
 {
     let z = narrow(told(c.method, used_at(s), promised_at(s), state_at(s)));
     grant(s, c, z, total);
@@ -72,7 +72,7 @@ fn turn(s: &mut [u8], answer: &mut [u8], i: usize, k: usize, t: Totals) -> usize
     requires i_bound { i < (decode s.old).waitings }
     requires k_le_i { k ≤ i }
     requires answer_len { length answer.old ≡ 144 }
-    requires t_value { t ≡ totalsOf (activesIn (decode s.old)) }
+    requires t_value { t ≡ totals_of (actives_in (decode s.old)) }
     ensures holds_disk_2 { HoldsDisk s.new }
     ensures turned { Turned (decode s.old) (decode s.new) answer.old answer.new i k result }
 {
@@ -94,7 +94,7 @@ fn close(s: &mut [u8], k: usize, n: usize)
     requires holds_disk { HoldsDisk s.old }
     requires k_le_n { k ≤ n }
     requires n_value { n ≡ (decode s.old).waitings }
-    ensures { s.new ≡ partFor (closedAt (decode s.old) k) }
+    ensures { s.new ≡ part_for (closed_at (decode s.old) k) }
 {
     clear_from(&mut s[WAITING_AT..PART_BYTES], k, n);
     put_word(s, WAITINGS_AT, k as u32);
@@ -103,8 +103,8 @@ fn close(s: &mut [u8], k: usize, n: usize)
 // The totals of the active claims after a turn: taken anew where a claim was granted, else as before.
 fn after_turn(s: &[u8], granted: bool, t: Totals) -> Totals
     requires holds_disk { HoldsDisk s.now }
-    requires t_value { granted ≡ false → t ≡ totalsOf (activesIn (decode s.now)) }
-    ensures { result ≡ totalsOf (activesIn (decode s.now)) }
+    requires t_value { granted ≡ false → t ≡ totals_of (actives_in (decode s.now)) }
+    ensures { result ≡ totals_of (actives_in (decode s.now)) }
 {
     if granted {
         return totals_at(s);
@@ -117,8 +117,8 @@ pub fn pass(s: &mut [u8], answer: &mut [u8])
     requires holds_sound { HoldsSound s.old }
     requires answer_len { length answer.old ≡ 144 }
     requires own_only { OwnOnly answer.old }
-    ensures s_after { s.new ≡ partFor (passedOf (held s.old)) }
-    ensures behind { Behind answer.old (map grantAnswer (lawPass diskTable (held s.old).core (held s.old).waiting).items) answer.new }
+    ensures s_after { s.new ≡ part_for (passed_of (held s.old)) }
+    ensures behind { Behind answer.old (map grant_answer (law_pass disk_table (held s.old).core (held s.old).waiting).items) answer.new }
 {
     let n = waitings_at(s) as usize;
     if n == 0 {

@@ -4,139 +4,139 @@ use Rattle.std.proofs.Common.{ap, subst, ◌∙◌, arith, leb-true}
 use Rattle.std.proofs.lemmas.Bool.{not-false}
 use Rattle.std.proofs.Math.Dec.{leb}
 use Rattle.num.specs.Word.{Bytes}
-use Rattle.num.specs.WordLaws.{word-at-fits}
-use Rattle.num.specs.Opened.{open_at, setOpen}
+use Rattle.num.specs.WordLaws.{word_at_fits}
+use Rattle.num.specs.Opened.{open_at, set_open}
 use Rattle.law.specs.Lists.{passed}
-use Rattle.law.specs.Types.{mostError, Disk as LawDisk, Item, Outcome, refused, accepted}
+use Rattle.law.specs.Types.{most_error, Disk as LawDisk, Item, Outcome, refused, accepted}
 use Rattle.law.specs.Granting.{grant}
-use Rattle.law.specs.Calls.{item, at, opened, openRefusals, openDisk, finish, without}
-use Rattle.law.specs.Events.{After, by-rules, claim-after, release-after, pass-keeps}
+use Rattle.law.specs.Calls.{item, at, opened, open_refusals, open_disk, finish, without}
+use Rattle.law.specs.Events.{After, by_rules, claim_after, release_after, pass_keeps}
 use Rattle.law.specs.History.{Call, claims, releases, answered}
 use Rattle.law.specs.Sound.{Sound}
-use Rattle.law.specs.SoundKept.{ReadableCall, sound-kept, sound-opened}
-use Rattle.law.specs.ProperLaws.{disk-proper}
-use Rattle.law.specs.DiskType.{diskTable}
+use Rattle.law.specs.SoundKept.{ReadableCall, sound_kept, sound_opened}
+use Rattle.law.specs.ProperLaws.{disk_proper}
+use Rattle.law.specs.DiskType.{disk_table}
 use Rattle.answer.specs.declared.Refusal.{Refusal}
 use Rattle.answer.specs.declared.Refusal.TheVariants as R
-use Rattle.answer.specs.Answers.{refusalOf}
-use Rattle.desk.specs.Record.{wellFormed, diskNumber, nowOf, askedIn, call_of, usedLimit, promisedLimit}
-use Rattle.desk.specs.Board.{disks, boardBytes, part_of, withPart}
-use Rattle.desk.specs.BoardLaws.{with-same}
-use Rattle.part.specs.Held.{held, partFor, soundPart}
-use Rattle.part.specs.PartLaws.{sound-held, held-part, length-part-for}
-use Rattle.promises.specs.RefusalLaws.{says-formed}
-use Rattle.desk.specs.Step.{accepts, effect, refusing, settled, serveOf, onPart, opening, effect_of}
-use Rattle.desk.specs.StepLaws.{by_call, by-serve, by-effect}
+use Rattle.answer.specs.Answers.{refusal_of}
+use Rattle.desk.specs.Record.{well_formed, disk_number, now_of, asked_in, call_of, used_limit, promised_limit}
+use Rattle.desk.specs.Board.{disks, board_bytes, part_of, with_part}
+use Rattle.desk.specs.BoardLaws.{with_same}
+use Rattle.part.specs.Held.{held, part_for, sound_part}
+use Rattle.part.specs.PartLaws.{sound_held, held_part, length_part_for}
+use Rattle.promises.specs.RefusalLaws.{says_formed}
+use Rattle.desk.specs.Step.{accepts, effect, refusing, settled, serve_of, on_part, opening, effect_of}
+use Rattle.desk.specs.StepLaws.{by_call, by_serve, by_effect}
 
 -- ---- the cases
 
 pub data Case (b r : List ℕ) : Type 0 where
   is_refused : (x : Refusal) → effect_of b r ≡ refusing b x → Case b r
-  isOpened : wellFormed r ≡ true → diskNumber r < disks → open_at b (diskNumber r) ≡ false → usedLimit r ≤ mostError → promisedLimit r ≤ mostError →
+  is_opened : well_formed r ≡ true → disk_number r < disks → open_at b (disk_number r) ≡ false → used_limit r ≤ most_error → promised_limit r ≤ most_error →
       effect_of b r
-      ≡ effect (setOpen (withPart b (diskNumber r) (partFor (opened (nowOf r) (usedLimit r) (promisedLimit r)))) (diskNumber r))
+      ≡ effect (set_open (with_part b (disk_number r) (part_for (opened (now_of r) (used_limit r) (promised_limit r)))) (disk_number r))
       (accepts (item 3 0 ∷ [])) →
       Case b r
-  isServed : wellFormed r ≡ true → diskNumber r < disks → open_at b (diskNumber r) ≡ true → soundPart (part_of b (diskNumber r)) ≡ true →
-      (e : LawDisk) (items : List Item) → answered diskTable (held (part_of b (diskNumber r))) (call_of r) ≡ accepted e items →
-      effect_of b r ≡ effect (withPart b (diskNumber r) (partFor e)) (accepts items) → Case b r
+  is_served : well_formed r ≡ true → disk_number r < disks → open_at b (disk_number r) ≡ true → sound_part (part_of b (disk_number r)) ≡ true →
+      (e : LawDisk) (items : List Item) → answered disk_table (held (part_of b (disk_number r))) (call_of r) ≡ accepted e items →
+      effect_of b r ≡ effect (with_part b (disk_number r) (part_for e)) (accepts items) → Case b r
 
-module _ (b r : List ℕ) (whole : length b ≡ boardBytes) where
+module _ (b r : List ℕ) (whole : length b ≡ board_bytes) where
   abbrev d : ℕ
-  d = diskNumber r
+  d = disk_number r
 
   -- A refusal leaves the part, and so the board.
-  part-refused : d < disks → (x : Refusal) → onPart b d (refusing (part_of b d) x) ≡ refusing b x
-  part-refused known x = ap (λ (c : List ℕ). refusing c x) (with-same b d whole known)
+  part_refused : d < disks → (x : Refusal) → on_part b d (refusing (part_of b d) x) ≡ refusing b x
+  part_refused known x = ap (λ (c : List ℕ). refusing c x) (with_same b d whole known)
 
-  open-case : wellFormed r ≡ true → d < disks → open_at b d ≡ false →
-      effect_of b r ≡ opening b d (openDisk (nowOf r) (usedLimit r) (promisedLimit r)) → Case b r
-  unfolding openDisk
-  open-case w known o =
-      by-rules (λ z. effect_of b r ≡ opening b d z → Case b r) (openRefusals (usedLimit r) (promisedLimit r))
-      (accepted (opened (nowOf r) (usedLimit r) (promisedLimit r)) (item 3 0 ∷ [])) (λ n e. is_refused (refusalOf n) e)
+  open_case : well_formed r ≡ true → d < disks → open_at b d ≡ false →
+      effect_of b r ≡ opening b d (open_disk (now_of r) (used_limit r) (promised_limit r)) → Case b r
+  unfolding open_disk
+  open_case w known o =
+      by_rules (λ z. effect_of b r ≡ opening b d z → Case b r) (open_refusals (used_limit r) (promised_limit r))
+      (accepted (opened (now_of r) (used_limit r) (promised_limit r)) (item 3 0 ∷ [])) (λ n e. is_refused (refusal_of n) e)
       (λ ok e.
-      let p = passed (leb (usedLimit r) mostError ∷ leb (promisedLimit r) mostError ∷ []) (not-false _ ok.0) in
-      isOpened w known o (leb-true (usedLimit r) mostError p.0) (leb-true (promisedLimit r) mostError p.1.0) e)
+      let p = passed (leb (used_limit r) most_error ∷ leb (promised_limit r) most_error ∷ []) (not-false _ ok.0) in
+      is_opened w known o (leb-true (used_limit r) most_error p.0) (leb-true (promised_limit r) most_error p.1.0) e)
 
-  serve-case : wellFormed r ≡ true → d < disks → open_at b d ≡ true →
-      effect_of b r ≡ onPart b d (serveOf (part_of b d) (call_of r)) → Case b r
-  serve-case w known o =
-      by-serve (λ t. effect_of b r ≡ onPart b d t → Case b r) (part_of b d) (call_of r)
-      (λ e. is_refused R.Unsound (e ∙ part-refused known R.Unsound))
-      (λ s. served s (answered diskTable (held (part_of b d)) (call_of r)) refl)
+  serve_case : well_formed r ≡ true → d < disks → open_at b d ≡ true →
+      effect_of b r ≡ on_part b d (serve_of (part_of b d) (call_of r)) → Case b r
+  serve_case w known o =
+      by_serve (λ t. effect_of b r ≡ on_part b d t → Case b r) (part_of b d) (call_of r)
+      (λ e. is_refused R.Unsound (e ∙ part_refused known R.Unsound))
+      (λ s. served s (answered disk_table (held (part_of b d)) (call_of r)) refl)
     where
-      served : soundPart (part_of b d) ≡ true → (z : Outcome) → answered diskTable (held (part_of b d)) (call_of r) ≡ z →
-          effect_of b r ≡ onPart b d (settled (part_of b d) z) → Case b r
-      served s (refused n) q e = is_refused (refusalOf n) (e ∙ part-refused known (refusalOf n))
-      served s (accepted f items) q e = isServed w known o s f items q e
+      served : sound_part (part_of b d) ≡ true → (z : Outcome) → answered disk_table (held (part_of b d)) (call_of r) ≡ z →
+          effect_of b r ≡ on_part b d (settled (part_of b d) z) → Case b r
+      served s (refused n) q e = is_refused (refusal_of n) (e ∙ part_refused known (refusal_of n))
+      served s (accepted f items) q e = is_served w known o s f items q e
 
-  pub effect-case : Case b r
-  effect-case = by-effect (λ t. effect_of b r ≡ t → Case b r) b r is_refused open-case serve-case refl
+  pub effect_case : Case b r
+  effect_case = by_effect (λ t. effect_of b r ≡ t → Case b r) b r is_refused open_case serve_case refl
 
 -- ---- a well-formed record holds a readable call
 
-pub call-readable : (r : List ℕ) → Bytes r → wellFormed r ≡ true → ReadableCall (call_of r)
-unfolding askedIn
-call-readable r bs w =
-    by_call ReadableCall r (record { priority = omega (arith, bs 5); flag = ((says-formed r).0 w).flag }) tt
+pub call_readable : (r : List ℕ) → Bytes r → well_formed r ≡ true → ReadableCall (call_of r)
+unfolding asked_in
+call_readable r bs w =
+    by_call ReadableCall r (record { priority = omega (arith, bs 5); flag = ((says_formed r).0 w).flag }) tt
 
 -- ---- an accepted call sets the clock to now
 
-abbrev pub nowIn : Call → ℕ
-nowIn (claims q) = q.now
-nowIn (releases now n) = now
+abbrev pub now_in : Call → ℕ
+now_in (claims q) = q.now
+now_in (releases now n) = now
 
-pub clock-set : (d : LawDisk) (k : Call) → After (λ e items. e.core.clock ≡ nowIn k) (answered diskTable d k)
+pub clock_set : (d : LawDisk) (k : Call) → After (λ e items. e.core.clock ≡ now_in k) (answered disk_table d k)
 unfolding grant finish
-clock-set d (claims q) = claim-after diskTable (λ e items. e.core.clock ≡ q.now) d q (λ ok g. refl) (λ ok g. refl)
-clock-set d (releases now n) =
-    release-after diskTable (λ e items. e.core.clock ≡ now) d now n
+clock_set d (claims q) = claim_after disk_table (λ e items. e.core.clock ≡ q.now) d q (λ ok g. refl) (λ ok g. refl)
+clock_set d (releases now n) =
+    release_after disk_table (λ e items. e.core.clock ≡ now) d now n
     (λ ok.
-    pass-keeps diskTable (λ u vs items. u.clock ≡ now) (λ u ahead c rest items g h. h)
-    (record { core = finish diskTable (at d now) n; ahead = []; items = [] })
+    pass_keeps disk_table (λ u vs items. u.clock ≡ now) (λ u ahead c rest items g h. h)
+    (record { core = finish disk_table (at d now) n; ahead = []; items = [] })
     (without n d.waiting) refl)
 
-pub call-now : (r : List ℕ) → nowIn (call_of r) ≡ nowOf r
-unfolding askedIn
-call-now r = by_call (λ k. nowIn k ≡ nowOf r) r refl refl
+pub call_now : (r : List ℕ) → now_in (call_of r) ≡ now_of r
+unfolding asked_in
+call_now r = by_call (λ k. now_in k ≡ now_of r) r refl refl
 
-pub now-fits : (r : List ℕ) → Bytes r → nowOf r < 2 ^ 32
-now-fits r bs = word-at-fits r 8 bs
+pub now_fits : (r : List ℕ) → Bytes r → now_of r < 2 ^ 32
+now_fits r bs = word_at_fits r 8 bs
 
 -- ---- the disk that an accepted call leaves
 
 -- An opened disk is sound, and its clock is now.
-pub opened-sound : (r : List ℕ) → usedLimit r ≤ 2_000_000_000 → promisedLimit r ≤ 2_000_000_000 →
-    Sound diskTable (opened (nowOf r) (usedLimit r) (promisedLimit r))
-opened-sound r f0 f1 = sound-opened diskTable (nowOf r) (usedLimit r) (promisedLimit r) f0 f1
+pub opened_sound : (r : List ℕ) → used_limit r ≤ 2_000_000_000 → promised_limit r ≤ 2_000_000_000 →
+    Sound disk_table (opened (now_of r) (used_limit r) (promised_limit r))
+opened_sound r f0 f1 = sound_opened disk_table (now_of r) (used_limit r) (promised_limit r) f0 f1
 
-pub opened-held : (r : List ℕ) → Bytes r → usedLimit r ≤ 2_000_000_000 → promisedLimit r ≤ 2_000_000_000 →
-    held (partFor (opened (nowOf r) (usedLimit r) (promisedLimit r))) ≡ opened (nowOf r) (usedLimit r) (promisedLimit r)
+pub opened_held : (r : List ℕ) → Bytes r → used_limit r ≤ 2_000_000_000 → promised_limit r ≤ 2_000_000_000 →
+    held (part_for (opened (now_of r) (used_limit r) (promised_limit r))) ≡ opened (now_of r) (used_limit r) (promised_limit r)
 unfolding opened
-opened-held r bs f0 f1 = held-part (opened (nowOf r) (usedLimit r) (promisedLimit r)) (opened-sound r f0 f1) (now-fits r bs)
+opened_held r bs f0 f1 = held_part (opened (now_of r) (used_limit r) (promised_limit r)) (opened_sound r f0 f1) (now_fits r bs)
 
-pub opened-now : (r : List ℕ) → (opened (nowOf r) (usedLimit r) (promisedLimit r)).core.clock ≡ nowOf r
+pub opened_now : (r : List ℕ) → (opened (now_of r) (used_limit r) (promised_limit r)).core.clock ≡ now_of r
 unfolding opened
-opened-now r = refl
+opened_now r = refl
 
 -- A served disk is sound, and its clock is now.
-module _ (p r : List ℕ) (bs : Bytes r) (w : wellFormed r ≡ true) (s : soundPart p ≡ true) (f : LawDisk) (items : List Item)
-    (q : answered diskTable (held p) (call_of r) ≡ accepted f items) where
-  pub served-sound : Sound diskTable f
-  served-sound =
-      subst (After (λ g xs. Sound diskTable g)) q
-      (sound-kept diskTable disk-proper (held p) (call_of r) (call-readable r bs w) (sound-held p s))
+module _ (p r : List ℕ) (bs : Bytes r) (w : well_formed r ≡ true) (s : sound_part p ≡ true) (f : LawDisk) (items : List Item)
+    (q : answered disk_table (held p) (call_of r) ≡ accepted f items) where
+  pub served_sound : Sound disk_table f
+  served_sound =
+      subst (After (λ g xs. Sound disk_table g)) q
+      (sound_kept disk_table disk_proper (held p) (call_of r) (call_readable r bs w) (sound_held p s))
 
-  pub served-now : f.core.clock ≡ nowOf r
-  served-now = subst (After (λ g xs. g.core.clock ≡ nowIn (call_of r))) q (clock-set (held p) (call_of r)) ∙ call-now r
+  pub served_now : f.core.clock ≡ now_of r
+  served_now = subst (After (λ g xs. g.core.clock ≡ now_in (call_of r))) q (clock_set (held p) (call_of r)) ∙ call_now r
 
-  pub served-held : held (partFor f) ≡ f
-  served-held = held-part f served-sound (omega (arith, served-now, now-fits r bs))
+  pub served_held : held (part_for f) ≡ f
+  served_held = held_part f served_sound (omega (arith, served_now, now_fits r bs))
 
-  pub served-size : length (partFor f) ≡ 768
-  served-size = length-part-for f served-sound.fewActive served-sound.fewWaiting
+  pub served_size : length (part_for f) ≡ 768
+  served_size = length_part_for f served_sound.few_active served_sound.few_waiting
 
-pub opened-size : (r : List ℕ) → length (partFor (opened (nowOf r) (usedLimit r) (promisedLimit r))) ≡ 768
+pub opened_size : (r : List ℕ) → length (part_for (opened (now_of r) (used_limit r) (promised_limit r))) ≡ 768
 unfolding opened
-opened-size r = length-part-for (opened (nowOf r) (usedLimit r) (promisedLimit r)) (omega arith) (omega arith)
+opened_size r = length_part_for (opened (now_of r) (used_limit r) (promised_limit r)) (omega arith) (omega arith)

@@ -3,13 +3,13 @@ use Rattle.std.specs.Prelude.{ℕ, List, ◌↔◌, ◌≡◌, refl, eqb, length
 use Rattle.std.proofs.Common.{arith, eqb-true, eq-eqb}
 use Rattle.std.proofs.lemmas.Bool.{eqb-false}
 use Rattle.num.specs.Count.{count_to}
-use Rattle.num.specs.Opened.{open_at, openCount}
+use Rattle.num.specs.Opened.{open_at, open_count}
 use Rattle.answer.specs.declared.Refusal.TheVariants as R
 use Rattle.answer.specs.Answers.{number_of}
-use Rattle.law.specs.Says.{by-test}
+use Rattle.law.specs.Says.{by_test}
 use Rattle.desk.specs.declared.board.Count.{Count}
 use Rattle.desk.specs.declared.board.Count.TheVariants as C
-use Rattle.desk.specs.Board.{boardBytes}
+use Rattle.desk.specs.Board.{board_bytes}
 use Rattle.desk.specs.Counts.{count_of}
 
 -- 01's number of each case, 0 if it is no refusal; and the count in each case, 0 in a refusal.
@@ -17,19 +17,19 @@ abbrev pub number_in : Count → ℕ
 number_in (C.Disks n) = 0
 number_in C.Length = number_of R.Length
 
-abbrev pub disksIn : Count → ℕ
-disksIn (C.Disks n) = n
-disksIn C.Length = 0
+abbrev pub disks_in : Count → ℕ
+disks_in (C.Disks n) = n
+disks_in C.Length = 0
 
 -- 9 exactly if the board has another length.
-pub count-refused-exactly : (b : List ℕ) → (number_in (count_of b) ≡ 9) ↔ (length b ≡ 49_216 → ⊥)
+pub count_refused_exactly : (b : List ℕ) → (number_in (count_of b) ≡ 9) ↔ (length b ≡ 49_216 → ⊥)
 unfolding count_of
-count-refused-exactly b =
-    by-test (λ c. (number_in c ≡ 9) ↔ (length b ≡ 49_216 → ⊥)) (eqb (length b) boardBytes)
-    (λ v. (λ e. absurd (omega arith), λ h. absurd (h (eqb-true (length b) boardBytes v))))
-    (λ v. (λ e. eqb-false (length b) boardBytes v, λ h. refl))
+count_refused_exactly b =
+    by_test (λ c. (number_in c ≡ 9) ↔ (length b ≡ 49_216 → ⊥)) (eqb (length b) board_bytes)
+    (λ v. (λ e. absurd (omega arith), λ h. absurd (h (eqb-true (length b) board_bytes v))))
+    (λ v. (λ e. eqb-false (length b) board_bytes v, λ h. refl))
 
 -- On a board of the right length: how many of its 64 bits are set.
-pub count-is : (b : List ℕ) → length b ≡ 49_216 → count_of b ≡ C.Disks (count_to (open_at b) 64)
-unfolding count_of openCount
-count-is b h = rw (eq-eqb (length b) boardBytes h)
+pub count_is : (b : List ℕ) → length b ≡ 49_216 → count_of b ≡ C.Disks (count_to (open_at b) 64)
+unfolding count_of open_count
+count_is b h = rw (eq-eqb (length b) board_bytes h)

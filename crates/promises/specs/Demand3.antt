@@ -4,8 +4,8 @@ use Rattle.std.proofs.Math.Bool.{true}
 use Rattle.std.proofs.Common.{true≢false, sym, ◌∙◌, subst, eq-eqb}
 use Rattle.std.proofs.Math.Path.{ap}
 use Rattle.std.proofs.lemmas.Bool.{lt-leb}
-use Rattle.num.specs.Word.{wordAt}
-use Rattle.num.specs.Signed.{signedAt}
+use Rattle.num.specs.Word.{word_at}
+use Rattle.num.specs.Signed.{signed_at}
 use Rattle.num.specs.Opened.{open_at}
 use Rattle.law.specs.declared.Claim.{Claim}
 use Rattle.law.specs.Base.{All, Pairs}
@@ -13,147 +13,147 @@ use Rattle.law.specs.Lists.{all_say, all_left}
 use Rattle.law.specs.Types.{reads, Disk as LawDisk, Item, accepted}
 use Rattle.law.specs.Entries.{kind_at}
 use Rattle.law.specs.Readings.{present, carried}
-use Rattle.law.specs.Calls.{withGrant}
-use Rattle.law.specs.Sound.{claimsOn}
+use Rattle.law.specs.Calls.{with_grant}
+use Rattle.law.specs.Sound.{claims_on}
 use Rattle.law.specs.History.{claims, answered, Once, EndsGrant, EndsWait, Lasting, StandsActive, StandsWaiting}
-use Rattle.law.specs.Conditions.{Reading, Free, readingItem}
-use Rattle.law.specs.GrantedAtOnce.{granted-at-once as law-granted-at-once}
-use Rattle.law.specs.ReaderBound.{Bounded, reader-bound, granted-once as law-granted-once}
-use Rattle.law.specs.Stays.{lasting-all, granted-stays, waiting_stays}
-use Rattle.law.specs.DiskType.{diskTable}
+use Rattle.law.specs.Conditions.{Reading, Free, reading_item}
+use Rattle.law.specs.GrantedAtOnce.{granted_at_once_lem as law_granted_at_once}
+use Rattle.law.specs.ReaderBound.{Bounded, reader_bound, granted_once as law_granted_once}
+use Rattle.law.specs.Stays.{lasting_all, granted_stays, waiting_stays}
+use Rattle.law.specs.DiskType.{disk_table}
 use Rattle.rules.specs.Answers.{answer_of}
 use Rattle.answer.specs.declared.Answer.TheVariants as A
-use Rattle.answer.specs.Answers.{code_of, answerBytes, answerSize}
-use Rattle.desk.specs.Record.{byte_at, kindByte, diskNumber, askedIn, call_of}
-use Rattle.desk.specs.Board.{disks, boardBytes, part_of, withPart}
-use Rattle.part.specs.Held.{held, partFor, soundPart}
-use Rattle.desk.specs.Step.{own_of, grantsOf, accepts, effect, serveOf, onBoard, effect_of, Stepped, written, step_of}
+use Rattle.answer.specs.Answers.{code_of, answer_bytes, answer_size}
+use Rattle.desk.specs.Record.{byte_at, kind_byte, disk_number, asked_in, call_of}
+use Rattle.desk.specs.Board.{disks, board_bytes, part_of, with_part}
+use Rattle.part.specs.Held.{held, part_for, sound_part}
+use Rattle.desk.specs.Step.{own_of, grants_of, accepts, effect, serve_of, on_board, effect_of, Stepped, written, step_of}
 use Rattle.promises.specs.Sentences.{WellFormed}
-use Rattle.promises.specs.RefusalLaws.{says-formed}
-use Rattle.promises.specs.Histories.{BoardCall, BytesIn, stepBy, saidBy, begun, lived}
-use Rattle.promises.specs.LifeLaws.{empty-shut, whole-begun, whole-lived, by-life, shut-silent, open-sound}
+use Rattle.promises.specs.RefusalLaws.{says_formed}
+use Rattle.promises.specs.Histories.{BoardCall, BytesIn, step_by, said_by, begun, lived}
+use Rattle.promises.specs.LifeLaws.{empty_shut, whole_begun, whole_lived, by_life, shut_silent, open_sound}
 use Rattle.promises.specs.Asks.{claimed, took, AsAsked, Stated, WasGranted, Relies}
-use Rattle.promises.specs.RelyLaws.{item-relies}
-use Rattle.law.specs.SomeLaws.{some-say}
-use Rattle.promises.specs.AskedLaws.{lived-asked}
-use Rattle.promises.specs.ToldLaws.{lived-granted}
-use Rattle.promises.specs.TakenLaws.{took-rises, claimed-rises}
+use Rattle.promises.specs.RelyLaws.{item_relies}
+use Rattle.law.specs.SomeLaws.{some_say}
+use Rattle.promises.specs.AskedLaws.{lived_asked}
+use Rattle.promises.specs.ToldLaws.{lived_granted}
+use Rattle.promises.specs.TakenLaws.{took_rises, claimed_rises}
 
 -- ---- from its grant to its release
 
 -- After any calls from the empty board, refused ones and calls on other disks included: a claim that was granted, and that no later item
 -- released, is active, with what it was told; and a claim that waits, and that no later item granted or released, waits.
-pub grants-last : (ks : List BoardCall) → All BytesIn ks → (d : ℕ) → d < disks →
+pub grants_last : (ks : List BoardCall) → All BytesIn ks → (d : ℕ) → d < disks →
     Lasting EndsGrant (StandsActive (held (part_of (lived begun ks).board d)).core.active) ((lived begun ks).past d)
-grants-last ks bs d h =
-    by-life ks bs d h (λ e past. Lasting EndsGrant (StandsActive e.core.active) past) (λ o e. tt)
-    (λ l. granted-stays diskTable l.now l.limit0 l.limit1 l.calls)
+grants_last ks bs d h =
+    by_life ks bs d h (λ e past. Lasting EndsGrant (StandsActive e.core.active) past) (λ o e. tt)
+    (λ l. granted_stays disk_table l.now l.limit0 l.limit1 l.calls)
 
-pub waits-last : (ks : List BoardCall) → All BytesIn ks → (d : ℕ) → d < disks →
+pub waits_last : (ks : List BoardCall) → All BytesIn ks → (d : ℕ) → d < disks →
     Lasting EndsWait (StandsWaiting (held (part_of (lived begun ks).board d)).waiting) ((lived begun ks).past d)
-waits-last ks bs d h =
-    by-life ks bs d h (λ e past. Lasting EndsWait (StandsWaiting e.waiting) past) (λ o e. tt)
-    (λ l. waiting_stays diskTable l.now l.limit0 l.limit1 l.calls)
+waits_last ks bs d h =
+    by_life ks bs d h (λ e past. Lasting EndsWait (StandsWaiting e.waiting) past) (λ o e. tt)
+    (λ l. waiting_stays disk_table l.now l.limit0 l.limit1 l.calls)
 
 -- ---- the limit that it stated
 
 -- After any calls from the empty board, every claim of an open disk, active or waiting, was claimed by some record: it has the
 -- ticket taken then, and all but told and amount is as that record asks.
-pub claims-as-asked : (ks : List BoardCall) → All BytesIn ks → (d : ℕ) → d < disks → open_at (lived begun ks).board d ≡ true →
-    All (AsAsked (claimed begun ks d)) (claimsOn (held (part_of (lived begun ks).board d)))
-claims-as-asked ks bs =
-    lived-asked begun ks bs whole-begun (λ d. []) (λ d l o. absurd (true≢false (sym o ∙ empty-shut d l)))
+pub claims_as_asked : (ks : List BoardCall) → All BytesIn ks → (d : ℕ) → d < disks → open_at (lived begun ks).board d ≡ true →
+    All (AsAsked (claimed begun ks d)) (claims_on (held (part_of (lived begun ks).board d)))
+claims_as_asked ks bs =
+    lived_asked begun ks bs whole_begun (λ d. []) (λ d l o. absurd (true≢false (sym o ∙ empty_shut d l)))
 
 -- ---- first half: a reading can rely on what it was told, from its grant to its release
 
 -- After any calls from the empty board, refused ones and calls on other disks included: for every grant that was said on disk d, and that
 -- no later item released, the told sum and the present sum of the same figures differ by at most the limit that its own record states
 -- less the error that those figures carried at that grant (`Relies` in Asks; `claims-rise`: no other record took its ticket).
-pub told-bound : (ks : List BoardCall) → All BytesIn ks → (d : ℕ) → d < disks →
+pub told_bound : (ks : List BoardCall) → All BytesIn ks → (d : ℕ) → d < disks →
     Lasting EndsGrant (Relies (part_of (lived begun ks).board d) (claimed begun ks d)) ((lived begun ks).past d)
-told-bound ks bs d h = go (open_at (lived begun ks).board d) refl
+told_bound ks bs d h = go (open_at (lived begun ks).board d) refl
   where
     p : List ℕ
     p = part_of (lived begun ks).board d
 
     go : (v : Bool) → open_at (lived begun ks).board d ≡ v → Lasting EndsGrant (Relies p (claimed begun ks d)) ((lived begun ks).past d)
-    go false o = subst (Lasting EndsGrant (Relies p (claimed begun ks d))) (sym (shut-silent ks bs d h o)) tt
+    go false o = subst (Lasting EndsGrant (Relies p (claimed begun ks d))) (sym (shut_silent ks bs d h o)) tt
     go true o =
-        lasting-all EndsGrant
+        lasting_all EndsGrant
         (λ i.
-        item-relies p (claimed begun ks d) i
-        (all_left (AsAsked (claimed begun ks d)) (held p).core.active (held p).waiting (claims-as-asked ks bs d h o)))
-        ((lived begun ks).past d) (grants-last ks bs d h)
-        (by-life ks bs d h (λ e past. All (Bounded diskTable e.core) past) (λ x e. tt)
-        (λ l. reader-bound diskTable l.now l.limit0 l.limit1 l.calls))
+        item_relies p (claimed begun ks d) i
+        (all_left (AsAsked (claimed begun ks d)) (held p).core.active (held p).waiting (claims_as_asked ks bs d h o)))
+        ((lived begun ks).past d) (grants_last ks bs d h)
+        (by_life ks bs d h (λ e past. All (Bounded disk_table e.core) past) (λ x e. tt)
+        (λ l. reader_bound disk_table l.now l.limit0 l.limit1 l.calls))
 
 -- Disk and ticket identify a reading for all time: no ticket of a disk is granted twice.
-pub granted-once : (ks : List BoardCall) → All BytesIn ks → (d : ℕ) → d < disks → Pairs Once ((lived begun ks).past d)
-granted-once ks bs d h =
-    by-life ks bs d h (λ e past. Pairs Once past) (λ o e. tt) (λ l. law-granted-once diskTable l.now l.limit0 l.limit1 l.calls)
+pub granted_once : (ks : List BoardCall) → All BytesIn ks → (d : ℕ) → d < disks → Pairs Once ((lived begun ks).past d)
+granted_once ks bs d h =
+    by_life ks bs d h (λ e past. Pairs Once past) (λ o e. tt) (λ l. law_granted_once disk_table l.now l.limit0 l.limit1 l.calls)
 
 -- All claims take different tickets: of any two calls whose own answer on a disk grants a claim or
 -- lets it wait, the later one took the higher ticket.
-pub tickets-once : (ks : List BoardCall) → All BytesIn ks → (d : ℕ) → d < disks → Pairs ◌<◌ (took begun ks d)
-tickets-once ks bs d h = (took-rises begun ks bs whole-begun d h).apart
+pub tickets_once : (ks : List BoardCall) → All BytesIn ks → (d : ℕ) → d < disks → Pairs ◌<◌ (took begun ks d)
+tickets_once ks bs d h = (took_rises begun ks bs whole_begun d h).apart
 
 -- So do the claims that were made, by their records: the record with a ticket is the only one with it.
-pub claims-rise : (ks : List BoardCall) → All BytesIn ks → (d : ℕ) → d < disks → Pairs ◌<◌ (map (λ x. x.ticket) (claimed begun ks d))
-claims-rise ks bs d h = (claimed-rises begun ks bs whole-begun d h).apart
+pub claims_rise : (ks : List BoardCall) → All BytesIn ks → (d : ℕ) → d < disks → Pairs ◌<◌ (map (λ x. x.ticket) (claimed begun ks d))
+claims_rise ks bs d h = (claimed_rises begun ks bs whole_begun d h).apart
 
 -- Every active claim was granted by an item that was said, with the told sum that stands on
 -- the board: no active claim is left out.
-pub readings-told : (ks : List BoardCall) → All BytesIn ks → (d : ℕ) → d < disks → open_at (lived begun ks).board d ≡ true →
+pub readings_told : (ks : List BoardCall) → All BytesIn ks → (d : ℕ) → d < disks → open_at (lived begun ks).board d ≡ true →
     All (WasGranted ((lived begun ks).past d)) (held (part_of (lived begun ks).board d)).core.active
-readings-told ks bs d h on =
-    by-life ks bs d h (λ e past. All (WasGranted past) e.core.active) (λ off e. absurd (true≢false (sym on ∙ off)))
-    (λ l. lived-granted l.now l.limit0 l.limit1 l.calls)
+readings_told ks bs d h on =
+    by_life ks bs d h (λ e past. All (WasGranted past) e.core.active) (λ off e. absurd (true≢false (sym on ∙ off)))
+    (λ l. lived_granted l.now l.limit0 l.limit1 l.calls)
 
 -- So the own error or stated limit of every claim on the board is the one that its own record states in bytes 20–23.
-pub limit-stated : (ks : List BoardCall) → All BytesIn ks → (d : ℕ) → d < disks → open_at (lived begun ks).board d ≡ true →
-    All (Stated (claimed begun ks d)) (claimsOn (held (part_of (lived begun ks).board d)))
-unfolding askedIn
-limit-stated ks bs d l o =
+pub limit_stated : (ks : List BoardCall) → All BytesIn ks → (d : ℕ) → d < disks → open_at (lived begun ks).board d ≡ true →
+    All (Stated (claimed begun ks d)) (claims_on (held (part_of (lived begun ks).board d)))
+unfolding asked_in
+limit_stated ks bs d l o =
     all_say (AsAsked (claimed begun ks d)) (Stated (claimed begun ks d))
-    (λ c h. some-say (λ x q. (ap (λ (e : Claim). e.ticket) q, ap (λ (e : Claim). e.error) q)) (claimed begun ks d) h)
-    (claimsOn (held (part_of (lived begun ks).board d)))
-    (claims-as-asked ks bs d l o)
+    (λ c h. some_say (λ x q. (ap (λ (e : Claim). e.ticket) q, ap (λ (e : Claim). e.error) q)) (claimed begun ks d) h)
+    (claims_on (held (part_of (lived begun ks).board d)))
+    (claims_as_asked ks bs d l o)
 
 -- ---- what was said is what the answer buffer shows
 
 -- The call returns its own answer's code. The buffer shows its own answer, then the grants of its pass, all else zero.
-pub answer-shows : (b : List ℕ) (k : BoardCall) → length b ≡ boardBytes → length k.buffer ≡ answerSize →
-    ((stepBy b k).code ≡ code_of (own_of (saidBy b k)))
-    × ((stepBy b k).answer ≡ answerBytes (own_of (saidBy b k)) (grantsOf (saidBy b k)))
-unfolding step_of saidBy
-answer-shows b k n m = rw (eq-eqb (length b) boardBytes n, eq-eqb (length k.buffer) answerSize m) (refl, refl)
+pub answer_shows : (b : List ℕ) (k : BoardCall) → length b ≡ board_bytes → length k.buffer ≡ answer_size →
+    ((step_by b k).code ≡ code_of (own_of (said_by b k)))
+    × ((step_by b k).answer ≡ answer_bytes (own_of (said_by b k)) (grants_of (said_by b k)))
+unfolding step_of said_by
+answer_shows b k n m = rw (eq-eqb (length b) board_bytes n, eq-eqb (length k.buffer) answer_size m) (refl, refl)
 
 -- An item that grants is shown with its ticket, told sum and amount.
-pub grant-shows : (i : Item) → i.code ≡ 0 → answer_of i ≡ A.Granted i.ticket i.told i.amount
+pub grant_shows : (i : Item) → i.code ≡ 0 → answer_of i ≡ A.Granted i.ticket i.told i.amount
 unfolding answer_of
-grant-shows i e = rw e
+grant_shows i e = rw e
 
 -- An item that lets a claim wait is shown with its ticket.
-pub wait-shows : (i : Item) → i.code ≡ 1 → answer_of i ≡ A.Waits i.ticket
+pub wait_shows : (i : Item) → i.code ≡ 1 → answer_of i ≡ A.Waits i.ticket
 unfolding answer_of
-wait-shows i e = rw e
+wait_shows i e = rw e
 
 -- ---- second half: no reader pays for another's limit
 
 -- A well-formed claim on a method that reads mask m: second of measuring and value 0, a limit in range.
 pub record AsksReading (r : List ℕ) (m : ℕ) : Type 0 where
   pub formed : WellFormed r
-  pub claims : kindByte r ≡ 2
-  pub disk : diskNumber r < 64
+  pub claims : kind_byte r ≡ 2
+  pub disk : disk_number r < 64
   pub method : byte_at r 4 < 7
-  pub reading : kind_at diskTable (byte_at r 4) ≡ reads m
-  pub measured : wordAt r 12 ≡ 0
-  pub value : signedAt r 16 ≡ pos 0
-  pub stated : wordAt r 20 ≤ 2_000_000_000
+  pub reading : kind_at disk_table (byte_at r 4) ≡ reads m
+  pub measured : word_at r 12 ≡ 0
+  pub value : signed_at r 16 ≡ pos 0
+  pub stated : word_at r 20 ≤ 2_000_000_000
 
 -- Such a record, decoded, is a well-formed reading in the law's sense.
-asks : (r : List ℕ) (m : ℕ) → AsksReading r m → Reading diskTable (askedIn r) m
-unfolding askedIn diskTable
+asks : (r : List ℕ) (m : ℕ) → AsksReading r m → Reading disk_table (asked_in r) m
+unfolding asked_in disk_table
 asks r m h = record { method = h.method; kind = h.reading; value = h.value; measured = h.measured; stated = h.stated }
 
 -- After any calls ks from the empty board comes the call k, a reading on an open disk. Under exactly the mission's conditions
@@ -169,29 +169,29 @@ module _ (ks : List BoardCall) (bs : All BytesIn ks) (k : BoardCall) (room : len
   r = k.asks
 
   abbrev d : LawDisk
-  d = held (part_of b (diskNumber r))
+  d = held (part_of b (disk_number r))
 
-  pub granted-at-once : (m : ℕ) → AsksReading r m → open_at b (diskNumber r) ≡ true → Free diskTable d (askedIn r) m →
-      ((stepBy b k).code ≡ 0)
-      × ((stepBy b k).answer
-      ≡ answerBytes (A.Granted d.next (present d.core.figures m) (carried d.core.figures m)) [])
-  unfolding step_of effect_of onBoard serveOf answer_of
-  granted-at-once m q o c =
+  pub granted_at_once_lem : (m : ℕ) → AsksReading r m → open_at b (disk_number r) ≡ true → Free disk_table d (asked_in r) m →
+      ((step_by b k).code ≡ 0)
+      × ((step_by b k).answer
+      ≡ answer_bytes (A.Granted d.next (present d.core.figures m) (carried d.core.figures m)) [])
+  unfolding step_of effect_of on_board serve_of answer_of
+  granted_at_once_lem m q o c =
       (ap (λ (s : Stepped). s.code) step, ap (λ (s : Stepped). s.answer) step)
     where
-      sound : soundPart (part_of b (diskNumber r)) ≡ true
-      sound = open-sound ks bs (diskNumber r) q.disk o
+      sound : sound_part (part_of b (disk_number r)) ≡ true
+      sound = open_sound ks bs (disk_number r) q.disk o
 
-      outcome : answered diskTable d (call_of r) ≡ accepted (withGrant diskTable d (askedIn r)) (readingItem d m ∷ [])
-      outcome = rw (eq-eqb (kindByte r) 2 q.claims) (law-granted-at-once diskTable d (askedIn r) m (asks r m (q)) c)
+      outcome : answered disk_table d (call_of r) ≡ accepted (with_grant disk_table d (asked_in r)) (reading_item d m ∷ [])
+      outcome = rw (eq-eqb (kind_byte r) 2 q.claims) (law_granted_at_once disk_table d (asked_in r) m (asks r m (q)) c)
 
-      not-open : eqb (kindByte r) 1 ≡ false
-      not-open = rw q.claims
+      not_open : eqb (kind_byte r) 1 ≡ false
+      not_open = rw q.claims
 
-      told : effect_of b r ≡ effect (withPart b (diskNumber r) (partFor (withGrant diskTable d (askedIn r)))) (accepts (readingItem d m ∷ []))
-      told = rw ((says-formed r).1 q.formed, lt-leb disks (diskNumber r) q.disk, not-open, o, sound, outcome)
+      told : effect_of b r ≡ effect (with_part b (disk_number r) (part_for (with_grant disk_table d (asked_in r)))) (accepts (reading_item d m ∷ []))
+      told = rw ((says_formed r).1 q.formed, lt-leb disks (disk_number r) q.disk, not_open, o, sound, outcome)
 
-      step : stepBy b k ≡ written (effect (withPart b (diskNumber r) (partFor (withGrant diskTable d (askedIn r)))) (accepts (readingItem d m ∷ [])))
+      step : step_by b k ≡ written (effect (with_part b (disk_number r) (part_for (with_grant disk_table d (asked_in r)))) (accepts (reading_item d m ∷ [])))
       step =
-          rw (eq-eqb (length b) boardBytes (whole-lived begun ks bs whole-begun).size, eq-eqb (length k.buffer) answerSize room)
+          rw (eq-eqb (length b) board_bytes (whole_lived begun ks bs whole_begun).size, eq-eqb (length k.buffer) answer_size room)
           (ap written told)

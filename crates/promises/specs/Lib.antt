@@ -4,7 +4,7 @@
 -- toolchain has checked it. The sentences are read aloud like this:
 --
 --     (b r a : List ℕ) →    for any board, record and answer buffer,
---     stepOf b r a          the result of one call on them: its .code, and the board (.bytes) and the .answer after it
+--     step_of b r a         the result of one call on them: its .code, and the board (.bytes) and the .answer after it
 --     x.f                  the f of x
 --     x ≡ y                 x is y
 --     P → Q                 if P, then Q

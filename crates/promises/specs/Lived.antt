@@ -5,10 +5,10 @@ use Rattle.law.specs.Base.{All}
 use Rattle.desk.specs.Board.{disks, part_of}
 use Rattle.promises.specs.Histories.{BoardCall, BytesIn, begun, lived}
 use Rattle.promises.specs.Sentences.{SoundPart}
-use Rattle.promises.specs.RefusalLaws.{says-sound-part}
-use Rattle.promises.specs.LifeLaws.{open-sound}
+use Rattle.promises.specs.RefusalLaws.{says_sound_part}
+use Rattle.promises.specs.LifeLaws.{open_sound}
 
 -- Every open part is sound.
-pub open-parts-sound : (ks : List BoardCall) → All BytesIn ks → (d : ℕ) → d < disks → open_at (lived begun ks).board d ≡ true →
+pub open_parts_sound : (ks : List BoardCall) → All BytesIn ks → (d : ℕ) → d < disks → open_at (lived begun ks).board d ≡ true →
     SoundPart (part_of (lived begun ks).board d)
-open-parts-sound ks bs d h o = (says-sound-part (part_of (lived begun ks).board d)).0 (open-sound ks bs d h o)
+open_parts_sound ks bs d h o = (says_sound_part (part_of (lived begun ks).board d)).0 (open_sound ks bs d h o)

@@ -3,27 +3,27 @@ use Rattle.std.specs.Prelude.{ℕ, zero, suc, ◌+◌, ◌-◌, ◌≤◌, ◌<�
 use Rattle.std.proofs.Common.{inl, inr, ⊎_elim, sym, ap, ◌∙◌, eq-zero-or-pos, arith, take-append-drop, drop_of_length-le, drop-drop}
 use borrow.Author.Tests.{le-leb, lt-leb, lt-ltb, le-ltb}
 use Rattle.records.specs.declared.Piece.TheVariants.{Record, Short, End}
-use Rattle.records.specs.Pieces.{length_of, length_at, piece_at, end_of, walked, Span, span, onwards, spansFrom, bytes_of, joined, having}
+use Rattle.records.specs.Pieces.{length_of, length_at, piece_at, end_of, walked, Span, span, onwards, spans_from, bytes_of, joined, having}
 
 -- A record is long enough to have its kind, the third byte.
-pub length-least : (kind : ℕ) → 3 ≤ length_of kind
+pub length_least : (kind : ℕ) → 3 ≤ length_of kind
 unfolding length_of
-length-least kind = omega arith
+length_least kind = omega arith
 
 -- ---- what begins at a place
 
 module _ (s : List ℕ) (at : ℕ) where
-  pub piece-end : length s ≤ at → piece_at s at ≡ End
+  pub piece_end : length s ≤ at → piece_at s at ≡ End
   unfolding piece_at
-  piece-end h = rw (le-leb _ _ h)
+  piece_end h = rw (le-leb _ _ h)
 
-  pub piece-short : at < length s → length s < at + length_at s at → piece_at s at ≡ Short (length s)
+  pub piece_short : at < length s → length s < at + length_at s at → piece_at s at ≡ Short (length s)
   unfolding piece_at
-  piece-short h l = rw (lt-leb _ _ h, lt-leb _ _ l)
+  piece_short h l = rw (lt-leb _ _ h, lt-leb _ _ l)
 
-  pub piece-whole : at < length s → at + length_at s at ≤ length s → piece_at s at ≡ Record (at + length_at s at)
+  pub piece_whole : at < length s → at + length_at s at ≤ length s → piece_at s at ≡ Record (at + length_at s at)
   unfolding piece_at
-  piece-whole h l = rw (lt-leb _ _ h, le-leb _ _ l)
+  piece_whole h l = rw (lt-leb _ _ h, le-leb _ _ l)
 
 -- The three cases.
 pub data Begins (s : List ℕ) (at : ℕ) : Type 0 where
@@ -35,34 +35,34 @@ module _ (s : List ℕ) (at : ℕ) where
   begun : at < length s → Begins s at
   begun h =
       ⊎_elim
-      (λ (e : at + length_at s at - length s ≡ 0). whole (omega arith) (piece-whole s at h (omega arith)))
-      (λ (l : 0 < at + length_at s at - length s). short h (omega arith) (piece-short s at h (omega arith)))
+      (λ (e : at + length_at s at - length s ≡ 0). whole (omega arith) (piece_whole s at h (omega arith)))
+      (λ (l : 0 < at + length_at s at - length s). short h (omega arith) (piece_short s at h (omega arith)))
       (eq-zero-or-pos (at + length_at s at - length s))
 
   pub begins : Begins s at
   begins =
       ⊎_elim
-      (λ (e : length s - at ≡ 0). none (omega arith) (piece-end s at (omega arith)))
+      (λ (e : length s - at ≡ 0). none (omega arith) (piece_end s at (omega arith)))
       (λ (h : 0 < length s - at). begun (omega arith))
       (eq-zero-or-pos (length s - at))
 
   -- A whole record has the length of its kind and ends within the run.
   pub whole_is : (to : ℕ) → piece_at s at ≡ Record to → (to ≡ at + length_at s at) × (to ≤ length s)
-  whole_is to e = by-case begins
+  whole_is to e = by_case begins
     where
-      by-case : Begins s at → (to ≡ at + length_at s at) × (to ≤ length s)
-      by-case (none l h) = let z : ◌≡◌ {A = ℕ} 0 1 = cc in absurd (omega arith)
-      by-case (whole l h) = let q : to ≡ at + length_at s at = cc in (q, omega arith)
-      by-case (short l k h) = let z : ◌≡◌ {A = ℕ} 0 1 = cc in absurd (omega arith)
+      by_case : Begins s at → (to ≡ at + length_at s at) × (to ≤ length s)
+      by_case (none l h) = let z : ◌≡◌ {A = ℕ} 0 1 = cc in absurd (omega arith)
+      by_case (whole l h) = let q : to ≡ at + length_at s at = cc in (q, omega arith)
+      by_case (short l k h) = let z : ◌≡◌ {A = ℕ} 0 1 = cc in absurd (omega arith)
 
   -- A short piece is all that is left, fewer bytes than a record of its kind.
-  pub short-is : (to : ℕ) → piece_at s at ≡ Short to → (to ≡ length s) × ((at < to) × (to < at + length_at s at))
-  short-is to e = by-case begins
+  pub short_is : (to : ℕ) → piece_at s at ≡ Short to → (to ≡ length s) × ((at < to) × (to < at + length_at s at))
+  short_is to e = by_case begins
     where
-      by-case : Begins s at → (to ≡ length s) × ((at < to) × (to < at + length_at s at))
-      by-case (none l h) = let z : ◌≡◌ {A = ℕ} 0 1 = cc in absurd (omega arith)
-      by-case (whole l h) = let z : ◌≡◌ {A = ℕ} 0 1 = cc in absurd (omega arith)
-      by-case (short l k h) = let q : to ≡ length s = cc in (q, (omega arith, omega arith))
+      by_case : Begins s at → (to ≡ length s) × ((at < to) × (to < at + length_at s at))
+      by_case (none l h) = let z : ◌≡◌ {A = ℕ} 0 1 = cc in absurd (omega arith)
+      by_case (whole l h) = let z : ◌≡◌ {A = ℕ} 0 1 = cc in absurd (omega arith)
+      by_case (short l k h) = let q : to ≡ length s = cc in (q, (omega arith, omega arith))
 
 -- A piece begins at `at`: it ends further on, within the run, and the next piece begins at its end.
 record Moves (s : List ℕ) (at : ℕ) : Type 0 where
@@ -79,7 +79,7 @@ moves s at (whole l e) =
     inr
     (record {
       to = at + length_at s at;
-      forward = omega (arith, length-least (get_or s (at + 2) 0));
+      forward = omega (arith, length_least (get_or s (at + 2) 0));
       within = l;
       ends = rw e;
       goes = λ more. rw e;
@@ -89,13 +89,13 @@ moves s at (short l k e) = inr (record { to = length s; forward = l; within = om
 -- ---- the walk ends
 
 -- After as many pieces as there are bytes left, the run has ended.
-pub walked-to-end : (n : ℕ) (s : List ℕ) (at : ℕ) → length s ≤ at + n → length s ≤ walked n s at
+pub walked_to_end : (n : ℕ) (s : List ℕ) (at : ℕ) → length s ≤ at + n → length s ≤ walked n s at
 unfolding walked
-walked-to-end zero s at h = omega arith
-walked-to-end (suc n) s at h =
+walked_to_end zero s at h = omega arith
+walked_to_end (suc n) s at h =
     ⊎_elim
-    (λ (e : length s ≤ at). walked-to-end n s (end_of (piece_at s at) at) (rw (piece-end s at e) (omega arith)))
-    (λ (m : Moves s at). walked-to-end n s (end_of (piece_at s at) at) (rw m.ends (omega (arith, m.forward))))
+    (λ (e : length s ≤ at). walked_to_end n s (end_of (piece_at s at) at) (rw (piece_end s at e) (omega arith)))
+    (λ (m : Moves s at). walked_to_end n s (end_of (piece_at s at) at) (rw m.ends (omega (arith, m.forward))))
     (moves s at (begins s at))
 
 -- ---- the pieces of a run, joined
@@ -108,43 +108,43 @@ apart s at to h =
     ∙ ap (λ (r : List ℕ). bytes_of s (span at to) ++ r) (sym (drop-drop (to - at) at s))
     ∙ take-append-drop (to - at) (drop at s)
 
-pub joined-from : (n : ℕ) (s : List ℕ) (at : ℕ) → length s ≤ at + n → joined s (spansFrom n s at) ≡ drop at s
-unfolding spansFrom joined
-joined-from zero s at h = sym (drop_of_length-le s {i = at} (omega arith))
-joined-from (suc n) s at h =
+pub joined_from : (n : ℕ) (s : List ℕ) (at : ℕ) → length s ≤ at + n → joined s (spans_from n s at) ≡ drop at s
+unfolding spans_from joined
+joined_from zero s at h = sym (drop_of_length-le s {i = at} (omega arith))
+joined_from (suc n) s at h =
     ⊎_elim
-    (λ (e : length s ≤ at). rw (piece-end s at e) (sym (drop_of_length-le s {i = at} e)))
+    (λ (e : length s ≤ at). rw (piece_end s at e) (sym (drop_of_length-le s {i = at} e)))
     (λ (m : Moves s at).
-    ap (joined s) (m.goes (spansFrom n s))
-    ∙ ap (λ (r : List ℕ). bytes_of s (span at m.to) ++ r) (joined-from n s m.to (omega (arith, m.forward)))
+    ap (joined s) (m.goes (spans_from n s))
+    ∙ ap (λ (r : List ℕ). bytes_of s (span at m.to) ++ r) (joined_from n s m.to (omega (arith, m.forward)))
     ∙ apart s at m.to (omega (arith, m.forward)))
     (moves s at (begins s at))
 
 -- ---- every byte is in one piece
 
 -- No piece from a place on contains a byte before that place.
-having-none : (n i : ℕ) (s : List ℕ) (at : ℕ) → i < at → having i (spansFrom n s at) ≡ 0
-unfolding spansFrom having
-having-none zero i s at h = refl
-having-none (suc n) i s at h =
-    ⊎_elim (λ (e : length s ≤ at). rw (piece-end s at e))
+having_none : (n i : ℕ) (s : List ℕ) (at : ℕ) → i < at → having i (spans_from n s at) ≡ 0
+unfolding spans_from having
+having_none zero i s at h = refl
+having_none (suc n) i s at h =
+    ⊎_elim (λ (e : length s ≤ at). rw (piece_end s at e))
     (λ (m : Moves s at).
-    ap (having i) (m.goes (spansFrom n s))
-    ∙ rw (lt-leb at i h) (having-none n i s m.to (omega (arith, m.forward))))
+    ap (having i) (m.goes (spans_from n s))
+    ∙ rw (lt-leb at i h) (having_none n i s m.to (omega (arith, m.forward))))
     (moves s at (begins s at))
 
-pub having-one : (n i : ℕ) (s : List ℕ) (at : ℕ) → length s ≤ at + n → at ≤ i → i < length s → having i (spansFrom n s at) ≡ 1
-unfolding spansFrom having
-having-one zero i s at h l k = absurd (omega arith)
-having-one (suc n) i s at h l k =
+pub having_one : (n i : ℕ) (s : List ℕ) (at : ℕ) → length s ≤ at + n → at ≤ i → i < length s → having i (spans_from n s at) ≡ 1
+unfolding spans_from having
+having_one zero i s at h l k = absurd (omega arith)
+having_one (suc n) i s at h l k =
     ⊎_elim (λ (e : length s ≤ at). absurd (omega arith))
     (λ (m : Moves s at).
-    ap (having i) (m.goes (spansFrom n s))
+    ap (having i) (m.goes (spans_from n s))
     ∙ rw (le-leb at i l)
     (⊎_elim
     (λ (e : i + 1 - m.to ≡ 0).
-    rw (lt-ltb i m.to (omega arith), having-none n i s m.to (omega arith)))
+    rw (lt-ltb i m.to (omega arith), having_none n i s m.to (omega arith)))
     (λ (b : 0 < i + 1 - m.to).
-    rw (le-ltb i m.to (omega arith)) (having-one n i s m.to (omega (arith, m.forward)) (omega arith) k))
+    rw (le-ltb i m.to (omega arith)) (having_one n i s m.to (omega (arith, m.forward)) (omega arith) k))
     (eq-zero-or-pos (i + 1 - m.to))))
     (moves s at (begins s at))

@@ -20,8 +20,8 @@ piece_at s at =
     (cond (leb (at + length_at s at) (length s)) (Record (at + length_at s at)) (Short (length s)))
 
 -- A reader of a lent run at a place.
-abbrev pub readerAt : Bor (List ℕ) → ℕ → Reader
-readerAt run at = record { run = run; at = at }
+abbrev pub reader_at : Bor (List ℕ) → ℕ → Reader
+reader_at run at = record { run = run; at = at }
 
 -- ---- the walk
 
@@ -53,13 +53,13 @@ onwards (Short to) at more = span at to ∷ more to
 onwards End at more = []
 
 -- The first n pieces from a place on.
-unfoldable pub spansFrom : ℕ → List ℕ → ℕ → List Span
-spansFrom zero s at = []
-spansFrom (suc n) s at = onwards (piece_at s at) at (spansFrom n s)
+unfoldable pub spans_from : ℕ → List ℕ → ℕ → List Span
+spans_from zero s at = []
+spans_from (suc n) s at = onwards (piece_at s at) at (spans_from n s)
 
 -- All pieces of a run; there are at most as many as bytes.
 abbrev pub spans : List ℕ → List Span
-spans s = spansFrom (length s) s 0
+spans s = spans_from (length s) s 0
 
 -- The bytes of a piece.
 abbrev pub bytes_of : List ℕ → Span → List ℕ

@@ -3,7 +3,7 @@
 // plain slice and a number. A caller that has a slice and a place calls `piece_in`.
 
 ghost use Rattle.std.specs.Prelude.{◌≡◌};
-ghost use Rattle.records.specs.Pieces.{length_of, piece_at, readerAt};
+ghost use Rattle.records.specs.Pieces.{length_of, piece_at, reader_at};
 
 // A run of records, and a place in it.
 #[derive(Drop)]
@@ -28,7 +28,7 @@ const KIND_AT: usize = 2;
 
 // A reader at the start of a run.
 pub fn new<'a>(run: &'a [u8]) -> Reader<'a>
-    ensures { result ≡ readerAt run.entry 0 }
+    ensures { result ≡ reader_at run.entry 0 }
 {
     Reader { run, at: 0 }
 }
@@ -42,7 +42,7 @@ pub fn next<'a>(r: Reader<'a>) -> Piece
 
 // The reader at another place of its run.
 pub fn moved<'a>(r: Reader<'a>, at: usize) -> Reader<'a>
-    ensures { result ≡ readerAt r.entry.run at }
+    ensures { result ≡ reader_at r.entry.run at }
 {
     Reader { run: r.run, at }
 }

@@ -3,38 +3,38 @@ use Prim.Native.Nat.{ℕ, zero, suc, ◌≤◌, ◌<◌}
 use mathlib.Core.Bool.{Bool, true, false, ◌&&◌}
 use mathlib.Core.Path.{◌≡◌, refl, sym, ap, ◌∙◌}
 use borrow.Author.Tests.{lt-ltb, le-ltb}
-use Rattle.num.specs.Bits.{hasBit}
+use Rattle.num.specs.Bits.{has_bit}
 use Rattle.law.specs.declared.Entry.TheVariants.{A}
 use Rattle.law.specs.Types.{a0, a1, a2, Kind, sets, adds, reads}
-use Rattle.law.specs.Entries.{kind_at, entryBy}
-use Rattle.law.specs.Granting.{addsTo}
-use Rattle.law.specs.DiskType.{diskTable}
-use Rattle.law.specs.TableLaws.{entry_at, disk-entry}
-use Rattle.rules.specs.Methods.{isAdd, index_of}
-use Rattle.rules.proofs.MethodLaws.{method-past}
+use Rattle.law.specs.Entries.{kind_at, entry_by}
+use Rattle.law.specs.Granting.{adds_to}
+use Rattle.law.specs.DiskType.{disk_table}
+use Rattle.law.specs.TableLaws.{entry_at, disk_entry}
+use Rattle.rules.specs.Methods.{is_add, index_of}
+use Rattle.rules.proofs.MethodLaws.{method_past}
 
 -- ---- methods
 
 -- A fact of the kind of each of the disk's methods, and of the kind of one that there is not, is a fact of every method's kind.
-pub each-kind : (P : Kind → Type 0) → P (sets a0) → P (adds a1) → P (sets a1) → P (sets a2) →
-    P (reads 1) → P (reads 3) → P (reads 4) → P (reads 0) → (m : ℕ) → P (kind_at diskTable m)
-unfolding diskTable
-each-kind P p0 p1 p2 p3 p4 p5 p6 p7 zero = p0
-each-kind P p0 p1 p2 p3 p4 p5 p6 p7 (suc zero) = p1
-each-kind P p0 p1 p2 p3 p4 p5 p6 p7 (suc (suc zero)) = p2
-each-kind P p0 p1 p2 p3 p4 p5 p6 p7 (suc (suc (suc zero))) = p3
-each-kind P p0 p1 p2 p3 p4 p5 p6 p7 (suc (suc (suc (suc zero)))) = p4
-each-kind P p0 p1 p2 p3 p4 p5 p6 p7 (suc (suc (suc (suc (suc zero))))) = p5
-each-kind P p0 p1 p2 p3 p4 p5 p6 p7 (suc (suc (suc (suc (suc (suc zero)))))) = p6
-each-kind P p0 p1 p2 p3 p4 p5 p6 p7 (suc (suc (suc (suc (suc (suc (suc m))))))) = p7
+pub each_kind : (P : Kind → Type 0) → P (sets a0) → P (adds a1) → P (sets a1) → P (sets a2) →
+    P (reads 1) → P (reads 3) → P (reads 4) → P (reads 0) → (m : ℕ) → P (kind_at disk_table m)
+unfolding disk_table
+each_kind P p0 p1 p2 p3 p4 p5 p6 p7 zero = p0
+each_kind P p0 p1 p2 p3 p4 p5 p6 p7 (suc zero) = p1
+each_kind P p0 p1 p2 p3 p4 p5 p6 p7 (suc (suc zero)) = p2
+each_kind P p0 p1 p2 p3 p4 p5 p6 p7 (suc (suc (suc zero))) = p3
+each_kind P p0 p1 p2 p3 p4 p5 p6 p7 (suc (suc (suc (suc zero)))) = p4
+each_kind P p0 p1 p2 p3 p4 p5 p6 p7 (suc (suc (suc (suc (suc zero))))) = p5
+each_kind P p0 p1 p2 p3 p4 p5 p6 p7 (suc (suc (suc (suc (suc (suc zero)))))) = p6
+each_kind P p0 p1 p2 p3 p4 p5 p6 p7 (suc (suc (suc (suc (suc (suc (suc m))))))) = p7
 
 -- Whatever adds adds to attribute 1.
-pub add_is : (m : ℕ) → isAdd (kind_at diskTable m) ≡ addsTo a1 (kind_at diskTable m)
-add_is m = each-kind (λ k. isAdd k ≡ addsTo a1 k) refl refl refl refl refl refl refl refl m
+pub add_is : (m : ℕ) → is_add (kind_at disk_table m) ≡ adds_to a1 (kind_at disk_table m)
+add_is m = each_kind (λ k. is_add k ≡ adds_to a1 k) refl refl refl refl refl refl refl refl m
 
 -- A method that there is not goes with all, as the row and as the column.
-past : (k : Kind) → (A ≡ entryBy (reads 0) k) × (A ≡ entryBy k (reads 0))
-unfolding hasBit
+past : (k : Kind) → (A ≡ entry_by (reads 0) k) × (A ≡ entry_by k (reads 0))
+unfolding has_bit
 past (sets a0) = (refl, refl)
 past (sets a1) = (refl, refl)
 past (sets a2) = (refl, refl)
@@ -48,24 +48,24 @@ pub index_is : (m : ℕ) → m < 7 → index_of m ≡ m
 unfolding index_of
 index_is m h = rw (lt-ltb m 7 h)
 
-pub index-past : (m : ℕ) → 7 ≤ m → index_of m ≡ 0
+pub index_past : (m : ℕ) → 7 ≤ m → index_of m ≡ 0
 unfolding index_of
-index-past m h = rw (le-ltb m 7 h)
+index_past m h = rw (le-ltb m 7 h)
 
 -- What stands in the table at the indices of two methods.
 pub found_at : (m n r s : ℕ) → r ≡ index_of m → s ≡ index_of n → entry_at r s ≡ entry_at (index_of m) (index_of n)
 found_at m n r s h g = rw (h, g)
 
-pub entry_of : (m n : ℕ) → m < 7 → n < 7 → entry_at (index_of m) (index_of n) ≡ entryBy (kind_at diskTable m) (kind_at diskTable n)
-entry_of m n h g = rw (index_is m h, index_is n g) (disk-entry m n h g)
+pub entry_of : (m n : ℕ) → m < 7 → n < 7 → entry_at (index_of m) (index_of n) ≡ entry_by (kind_at disk_table m) (kind_at disk_table n)
+entry_of m n h g = rw (index_is m h, index_is n g) (disk_entry m n h g)
 
-pub entry-row-past : (m n : ℕ) → 7 ≤ m → A ≡ entryBy (kind_at diskTable m) (kind_at diskTable n)
-entry-row-past m n h = (past (kind_at diskTable n)).0 ∙ ap (λ k. entryBy k (kind_at diskTable n)) (sym (method-past m h))
+pub entry_row_past : (m n : ℕ) → 7 ≤ m → A ≡ entry_by (kind_at disk_table m) (kind_at disk_table n)
+entry_row_past m n h = (past (kind_at disk_table n)).0 ∙ ap (λ k. entry_by k (kind_at disk_table n)) (sym (method_past m h))
 
-pub entry-col-past : (m n : ℕ) → 7 ≤ n → A ≡ entryBy (kind_at diskTable m) (kind_at diskTable n)
-entry-col-past m n h = (past (kind_at diskTable m)).1 ∙ ap (entryBy (kind_at diskTable m)) (sym (method-past n h))
+pub entry_col_past : (m n : ℕ) → 7 ≤ n → A ≡ entry_by (kind_at disk_table m) (kind_at disk_table n)
+entry_col_past m n h = (past (kind_at disk_table m)).1 ∙ ap (entry_by (kind_at disk_table m)) (sym (method_past n h))
 
 -- The last test of a list of tests.
-pub last-test : (b : Bool) → b ≡ (b && true)
-last-test true = refl
-last-test false = refl
+pub last_test : (b : Bool) → b ≡ (b && true)
+last_test true = refl
+last_test false = refl

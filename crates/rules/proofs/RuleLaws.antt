@@ -6,60 +6,60 @@ use mathlib.Core.List.{[], ◌∷◌}
 use mathlib.Core.Path.{◌≡◌, refl, sym}
 use borrow.Author.Tests.{leb-true, leb-false, lt-ltb, le-ltb, le-leb, lt-leb, eq-eqb, ne_eqb}
 use lib.Dec.{leb, ltb}
-use Rattle.num.specs.Bits.{hasBit}
+use Rattle.num.specs.Bits.{has_bit}
 use Rattle.num.specs.Metric.{size}
 use Rattle.law.specs.declared.Claim.{Claim}
-use Rattle.law.specs.Base.{allTrue}
-use Rattle.law.specs.Types.{mostValue, Attribute, a0, a1, a2, bit_of, Kind, sets, adds, reads, Figures, attr, Core}
+use Rattle.law.specs.Base.{all_true}
+use Rattle.law.specs.Types.{most_value, Attribute, a0, a1, a2, bit_of, Kind, sets, adds, reads, Figures, attr, Core}
 use Rattle.law.specs.Readings.{carried}
 use Rattle.law.specs.Entries.{kind_at}
-use Rattle.law.specs.Granting.{start_by, limitBy, carriedBy, fresh, addable, bearable, ranged, addsOn, preconditions}
-use Rattle.law.specs.DiskType.{diskTable, diskValid}
+use Rattle.law.specs.Granting.{start_by, limit_by, carried_by, fresh, addable, bearable, ranged, adds_on, preconditions}
+use Rattle.law.specs.DiskType.{disk_table, disk_valid}
 use Rattle.law.specs.Lists.{never_true}
-use Rattle.rules.specs.Methods.{readsBy, isReading, isAdd, written_by, alone, freshAt, rangedBy, preOf}
-use Rattle.rules.proofs.MethodLaws.{method-cases, method-past}
+use Rattle.rules.specs.Methods.{reads_by, is_reading, is_add, written_by, alone, fresh_at, ranged_by, pre_of}
+use Rattle.rules.proofs.MethodLaws.{method_cases, method_past}
 
 -- ---- a fact of the readings, of the adds, of the writes, of the sets
 
 module _ (P : Kind → Type 0) where
-  pub by-reads : ((m : ℕ) → P (reads m)) → (k : Kind) → isReading k ≡ true → P k
-  by-reads f (sets a) e = never_true _ e
-  by-reads f (adds a) e = never_true _ e
-  by-reads f (reads m) e = f m
+  pub by_reads : ((m : ℕ) → P (reads m)) → (k : Kind) → is_reading k ≡ true → P k
+  by_reads f (sets a) e = never_true _ e
+  by_reads f (adds a) e = never_true _ e
+  by_reads f (reads m) e = f m
 
-  pub by-adds : ((a : Attribute) → P (adds a)) → (k : Kind) → isAdd k ≡ true → P k
-  by-adds f (sets a) e = never_true _ e
-  by-adds f (adds a) e = f a
-  by-adds f (reads m) e = never_true _ e
+  pub by_adds : ((a : Attribute) → P (adds a)) → (k : Kind) → is_add k ≡ true → P k
+  by_adds f (sets a) e = never_true _ e
+  by_adds f (adds a) e = f a
+  by_adds f (reads m) e = never_true _ e
 
-  pub by-writes : ((a : Attribute) → P (sets a)) → ((a : Attribute) → P (adds a)) → (k : Kind) → isReading k ≡ false →
+  pub by_writes : ((a : Attribute) → P (sets a)) → ((a : Attribute) → P (adds a)) → (k : Kind) → is_reading k ≡ false →
       P k
-  by-writes f g (sets a) e = f a
-  by-writes f g (adds a) e = g a
-  by-writes f g (reads m) e = never_true _ (sym e)
+  by_writes f g (sets a) e = f a
+  by_writes f g (adds a) e = g a
+  by_writes f g (reads m) e = never_true _ (sym e)
 
-  pub by-sets : ((a : Attribute) → P (sets a)) → (k : Kind) → isReading k ≡ false → isAdd k ≡ false → P k
-  by-sets f (sets a) e h = f a
-  by-sets f (adds a) e h = never_true _ (sym h)
-  by-sets f (reads m) e h = never_true _ (sym e)
+  pub by_sets : ((a : Attribute) → P (sets a)) → (k : Kind) → is_reading k ≡ false → is_add k ≡ false → P k
+  by_sets f (sets a) e h = f a
+  by_sets f (adds a) e h = never_true _ (sym h)
+  by_sets f (reads m) e h = never_true _ (sym e)
 
 -- ---- starting amount and limit
 
 module _ (f : Figures) (k : Kind) (own : ℕ) where
-  pub start-reads : isReading k ≡ true → start_by f k own ≡ carriedBy f k
-  start-reads = by-reads (λ k. start_by f k own ≡ carriedBy f k) (λ m. refl) k
+  pub start_reads : is_reading k ≡ true → start_by f k own ≡ carried_by f k
+  start_reads = by_reads (λ k. start_by f k own ≡ carried_by f k) (λ m. refl) k
 
-  pub start-adds : isAdd k ≡ true → start_by f k own ≡ (written_by f k).amount + own
-  start-adds = by-adds (λ k. start_by f k own ≡ (written_by f k).amount + own) (λ a. refl) k
+  pub start_adds : is_add k ≡ true → start_by f k own ≡ (written_by f k).amount + own
+  start_adds = by_adds (λ k. start_by f k own ≡ (written_by f k).amount + own) (λ a. refl) k
 
-  pub start-sets : isReading k ≡ false → isAdd k ≡ false → start_by f k own ≡ own
-  start-sets = by-sets (λ k. start_by f k own ≡ own) (λ a. refl) k
+  pub start_sets : is_reading k ≡ false → is_add k ≡ false → start_by f k own ≡ own
+  start_sets = by_sets (λ k. start_by f k own ≡ own) (λ a. refl) k
 
-  pub limit-reads : isReading k ≡ true → limitBy f k own ≡ own
-  limit-reads = by-reads (λ k. limitBy f k own ≡ own) (λ m. refl) k
+  pub limit_reads : is_reading k ≡ true → limit_by f k own ≡ own
+  limit_reads = by_reads (λ k. limit_by f k own ≡ own) (λ m. refl) k
 
-  pub limit-writes : isReading k ≡ false → limitBy f k own ≡ (written_by f k).limit
-  limit-writes = by-writes (λ k. limitBy f k own ≡ (written_by f k).limit) (λ a. refl) (λ a. refl) k
+  pub limit_writes : is_reading k ≡ false → limit_by f k own ≡ (written_by f k).limit
+  limit_writes = by_writes (λ k. limit_by f k own ≡ (written_by f k).limit) (λ a. refl) (λ a. refl) k
 
 -- ---- precondition (a)
 
@@ -68,100 +68,100 @@ later : (x now : ℕ) (b : Bool) → leb x now ≡ b → ltb now x ≡ not b
 later x now true e = le-ltb now x (leb-true x now e)
 later x now false e = lt-ltb now x (leb-false x now e)
 
-in-time : (x now : ℕ) (read : Bool) → cond read (ltb now x) true ≡ not (read && leb x now)
-in-time x now true = later x now (leb x now) refl
-in-time x now false = refl
+in_time : (x now : ℕ) (read : Bool) → cond read (ltb now x) true ≡ not (read && leb x now)
+in_time x now true = later x now (leb x now) refl
+in_time x now false = refl
 
 -- An attribute of a mask is stale under a flag.
-abbrev pub staleIn : Figures → ℕ → ℕ → ℕ → Attribute → Bool
-staleIn f now flag mask a = hasBit mask (bit_of a) && leb ((attr f a).stamp + diskValid flag a) now
+abbrev pub stale_in : Figures → ℕ → ℕ → ℕ → Attribute → Bool
+stale_in f now flag mask a = has_bit mask (bit_of a) && leb ((attr f a).stamp + disk_valid flag a) now
 
 module _ (f : Figures) (now : ℕ) where
-  pub fresh-unasked : (k : Kind) (flag : ℕ) → flag ≡ 0 → freshAt f now k flag ≡ true
-  unfolding freshAt
-  fresh-unasked (sets a) flag e = refl
-  fresh-unasked (adds a) flag e = refl
-  fresh-unasked (reads m) flag e = rw (eq-eqb flag 0 e)
+  pub fresh_unasked : (k : Kind) (flag : ℕ) → flag ≡ 0 → fresh_at f now k flag ≡ true
+  unfolding fresh_at
+  fresh_unasked (sets a) flag e = refl
+  fresh_unasked (adds a) flag e = refl
+  fresh_unasked (reads m) flag e = rw (eq-eqb flag 0 e)
 
-  pub fresh-asked : (k : Kind) (flag : ℕ) → (flag ≡ 0 → ⊥) →
-      freshAt f now k flag ≡ allTrue
-      (not (staleIn f now flag (readsBy k) a0)
-      ∷ not (staleIn f now flag (readsBy k) a1)
-      ∷ not (staleIn f now flag (readsBy k) a2)
+  pub fresh_asked : (k : Kind) (flag : ℕ) → (flag ≡ 0 → ⊥) →
+      fresh_at f now k flag ≡ all_true
+      (not (stale_in f now flag (reads_by k) a0)
+      ∷ not (stale_in f now flag (reads_by k) a1)
+      ∷ not (stale_in f now flag (reads_by k) a2)
       ∷ [])
-  unfolding freshAt diskTable hasBit
-  fresh-asked (sets a) flag e = refl
-  fresh-asked (adds a) flag e = refl
-  fresh-asked (reads m) flag e = simp (ne_eqb flag 0 e, in-time)
+  unfolding fresh_at disk_table has_bit
+  fresh_asked (sets a) flag e = refl
+  fresh_asked (adds a) flag e = refl
+  fresh_asked (reads m) flag e = simp (ne_eqb flag 0 e, in_time)
 
 -- ---- preconditions (a) to (d)
 
--- The preconditions of a claim whose method is of kind k: `preOf` by definition.
-abbrev pub preBy : Figures → ℕ → ℕ → Claim → Kind → Bool
-preBy f now sum c k =
-    allTrue
-    (freshAt f now k c.flag
-    ∷ addable diskTable (alone f now) k c.error
-    ∷ bearable diskTable (alone f now) k c.error
-    ∷ rangedBy f sum k c.value
+-- The preconditions of a claim whose method is of kind k: `pre_of` by definition.
+abbrev pub pre_by : Figures → ℕ → ℕ → Claim → Kind → Bool
+pre_by f now sum c k =
+    all_true
+    (fresh_at f now k c.flag
+    ∷ addable disk_table (alone f now) k c.error
+    ∷ bearable disk_table (alone f now) k c.error
+    ∷ ranged_by f sum k c.value
     ∷ [])
 
 module _ (f : Figures) (now sum : ℕ) (c : Claim) (k : Kind) where
   -- An add over its limit, and one within.
-  pub pre-over : isAdd k ≡ true → (written_by f k).limit < (written_by f k).amount + c.error → preBy f now sum c k ≡ false
-  unfolding freshAt
-  pre-over =
-      by-adds (λ k. (written_by f k).limit < (written_by f k).amount + c.error → preBy f now sum c k ≡ false)
+  pub pre_over : is_add k ≡ true → (written_by f k).limit < (written_by f k).amount + c.error → pre_by f now sum c k ≡ false
+  unfolding fresh_at
+  pre_over =
+      by_adds (λ k. (written_by f k).limit < (written_by f k).amount + c.error → pre_by f now sum c k ≡ false)
       (λ a h. rw (lt-leb ((attr f a).amount + c.error) (attr f a).limit h))
       k
 
-  pub pre-adds : isAdd k ≡ true → (written_by f k).amount + c.error ≤ (written_by f k).limit →
-      preBy f now sum c k ≡ leb (size (written_by f k).value + sum + size c.value) mostValue
-  unfolding freshAt
-  pre-adds =
-      by-adds
+  pub pre_adds : is_add k ≡ true → (written_by f k).amount + c.error ≤ (written_by f k).limit →
+      pre_by f now sum c k ≡ leb (size (written_by f k).value + sum + size c.value) most_value
+  unfolding fresh_at
+  pre_adds =
+      by_adds
       (λ k. (written_by f k).amount + c.error ≤ (written_by f k).limit →
-      preBy f now sum c k ≡ leb (size (written_by f k).value + sum + size c.value) mostValue)
+      pre_by f now sum c k ≡ leb (size (written_by f k).value + sum + size c.value) most_value)
       (λ a h. rw (le-leb ((attr f a).amount + c.error) (attr f a).limit h) (and-true _))
       k
 
   -- A reading of figures that carry more than it bears, and of others.
-  pub pre-carries : isReading k ≡ true → c.error < carriedBy f k → preBy f now sum c k ≡ false
-  pre-carries =
-      by-reads (λ k. c.error < carriedBy f k → preBy f now sum c k ≡ false)
-      (λ m h. rw (lt-leb (carried f m) c.error h) (and-false (freshAt f now (reads m) c.flag)))
+  pub pre_carries : is_reading k ≡ true → c.error < carried_by f k → pre_by f now sum c k ≡ false
+  pre_carries =
+      by_reads (λ k. c.error < carried_by f k → pre_by f now sum c k ≡ false)
+      (λ m h. rw (lt-leb (carried f m) c.error h) (and-false (fresh_at f now (reads m) c.flag)))
       k
 
-  pub pre-reads : isReading k ≡ true → carriedBy f k ≤ c.error → preBy f now sum c k ≡ freshAt f now k c.flag
-  pre-reads =
-      by-reads (λ k. carriedBy f k ≤ c.error → preBy f now sum c k ≡ freshAt f now k c.flag)
+  pub pre_reads : is_reading k ≡ true → carried_by f k ≤ c.error → pre_by f now sum c k ≡ fresh_at f now k c.flag
+  pre_reads =
+      by_reads (λ k. carried_by f k ≤ c.error → pre_by f now sum c k ≡ fresh_at f now k c.flag)
       (λ m h. rw (le-leb (carried f m) c.error h) (and-true _))
       k
 
-  pub pre-sets : isReading k ≡ false → isAdd k ≡ false → preBy f now sum c k ≡ true
-  unfolding freshAt
-  pre-sets = by-sets (λ k. preBy f now sum c k ≡ true) (λ a. refl) k
+  pub pre_sets : is_reading k ≡ false → is_add k ≡ false → pre_by f now sum c k ≡ true
+  unfolding fresh_at
+  pre_sets = by_sets (λ k. pre_by f now sum c k ≡ true) (λ a. refl) k
 
 -- ---- they are the law's
 
 -- The law's four tests of a claim whose method is of kind k.
-abbrev testsBy : Core → Claim → Kind → Bool
-testsBy s c k =
-    allTrue
-    (fresh diskTable s k c.flag
-    ∷ addable diskTable s k c.error
-    ∷ bearable diskTable s k c.error
-    ∷ ranged diskTable s k c.value
+abbrev tests_by : Core → Claim → Kind → Bool
+tests_by s c k =
+    all_true
+    (fresh disk_table s k c.flag
+    ∷ addable disk_table s k c.error
+    ∷ bearable disk_table s k c.error
+    ∷ ranged disk_table s k c.value
     ∷ [])
 
 -- The one attribute that a disk's method adds to is promised.
 pub pre_is : (s : Core) (c : Claim) →
-    preOf s.figures s.clock (addsOn diskTable a1 s.active) c ≡ preconditions diskTable s c
-unfolding preOf preconditions freshAt diskTable
+    pre_of s.figures s.clock (adds_on disk_table a1 s.active) c ≡ preconditions disk_table s c
+unfolding pre_of preconditions fresh_at disk_table
 pre_is s c =
-    let sum = addsOn diskTable a1 s.active in
-    method-cases
-    (λ m. preBy s.figures s.clock sum c (kind_at diskTable m) ≡ testsBy s c (kind_at diskTable m))
+    let sum = adds_on disk_table a1 s.active in
+    method_cases
+    (λ m. pre_by s.figures s.clock sum c (kind_at disk_table m) ≡ tests_by s c (kind_at disk_table m))
     refl
     refl
     refl
@@ -169,5 +169,5 @@ pre_is s c =
     refl
     refl
     refl
-    (λ m h. rw (method-past m h))
+    (λ m h. rw (method_past m h))
     c.method

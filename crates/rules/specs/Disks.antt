@@ -4,23 +4,23 @@ use Rattle.num.specs.Metric.{size}
 use Rattle.law.specs.declared.Claim.{Claim}
 use Rattle.law.specs.Types.{Figures, Core, Disk as LawDisk}
 use Rattle.law.specs.Entries.{kind_of}
-use Rattle.law.specs.Granting.{toldBy, grant}
-use Rattle.law.specs.DiskType.{diskTable}
-use Rattle.rules.specs.Rows.{Row, noClaim}
-use Rattle.rules.specs.Methods.{figuresOf}
+use Rattle.law.specs.Granting.{told_by, grant}
+use Rattle.law.specs.DiskType.{disk_table}
+use Rattle.rules.specs.Rows.{Row, no_claim}
+use Rattle.rules.specs.Methods.{figures_of}
 use Rattle.rules.specs.Pairs.{core_of}
 use Rattle.rules.specs.declared.disk.Disk.{Disk}
 
-abbrev pub figuresIn : Disk → Figures
-figuresIn d = figuresOf d.used d.promised d.state
+abbrev pub figures_in : Disk → Figures
+figures_in d = figures_of d.used d.promised d.state
 
 -- The disk as a decision sees it.
-abbrev pub coreIn : Disk → Core
-coreIn d = core_of (figuresIn d) d.clock (take d.actives d.active)
+abbrev pub core_in : Disk → Core
+core_in d = core_of (figures_in d) d.clock (take d.actives d.active)
 
 -- The disk of the law.
-abbrev pub diskOf : Disk → LawDisk
-diskOf d = record { core = coreIn d; waiting = take d.waitings d.waiting; next = d.next }
+abbrev pub disk_of : Disk → LawDisk
+disk_of d = record { core = core_in d; waiting = take d.waitings d.waiting; next = d.next }
 
 -- Both arrays are clear past their counts, so that a disk of the law has one such disk.
 pub record Good (d : Disk) : Type 0 where
@@ -30,24 +30,24 @@ pub record Good (d : Disk) : Type 0 where
 -- A good disk that stands for e.
 pub record DiskIs (d : Disk) (e : LawDisk) : Type 0 where
   pub good : Good d
-  pub is : diskOf d ≡ e
+  pub is : disk_of d ≡ e
 
 -- The grant of c.
-abbrev pub grantOf : LawDisk → Claim → LawDisk
-grantOf e c = record { core = grant diskTable e.core c; waiting = e.waiting; next = e.next }
+abbrev pub grant_of : LawDisk → Claim → LawDisk
+grant_of e c = record { core = grant disk_table e.core c; waiting = e.waiting; next = e.next }
 
 -- What a granted claim is told is in range.
 abbrev pub ToldFits : Disk → Claim → Type 0
-ToldFits d c = size (toldBy (figuresIn d) (kind_of diskTable c)) ≤ 2_000_000_000
+ToldFits d c = size (told_by (figures_in d) (kind_of disk_table c)) ≤ 2_000_000_000
 
 -- ---- the disk by value of a disk of the law
 
 -- A list of at most eight claims in its array.
 abbrev pub padded : List Claim → List Claim
-padded ws = ws ++ replicate (8 - length ws) noClaim
+padded ws = ws ++ replicate (8 - length ws) no_claim
 
-unfoldable pub byValue : LawDisk → Disk
-byValue e =
+unfoldable pub by_value : LawDisk → Disk
+by_value e =
     record {
       clock = e.core.clock;
       next = e.next;

@@ -3,15 +3,15 @@ use Rattle.std.specs.Prelude.{ℕ, ◌+◌, Bool, true, false, cond, List, [], �
 use Rattle.num.specs.Metric.{size}
 use Rattle.law.specs.declared.Attr.{Attr}
 use Rattle.law.specs.declared.Claim.{Claim}
-use Rattle.law.specs.Base.{allTrue}
-use Rattle.law.specs.Types.{mostValue, mostError, mostState, mostFlag, Attribute, a0, a1, a2, Kind, sets, adds, reads, Figures, attr, Core}
+use Rattle.law.specs.Base.{all_true}
+use Rattle.law.specs.Types.{most_value, most_error, most_state, most_flag, Attribute, a0, a1, a2, Kind, sets, adds, reads, Figures, attr, Core}
 use Rattle.law.specs.Entries.{kind_at}
 use Rattle.law.specs.Granting.{fresh, addable, bearable}
-use Rattle.law.specs.DiskType.{diskTable}
+use Rattle.law.specs.DiskType.{disk_table}
 
 -- The figures of a disk.
-abbrev pub figuresOf : Attr → Attr → Attr → Figures
-figuresOf used promised state = record { f0 = used; f1 = promised; f2 = state }
+abbrev pub figures_of : Attr → Attr → Attr → Figures
+figures_of used promised state = record { f0 = used; f1 = promised; f2 = state }
 
 -- The masks of what a method sets, adds to, reads and writes.
 abbrev pub mask_of : Attribute → ℕ
@@ -19,37 +19,37 @@ mask_of a0 = 1
 mask_of a1 = 2
 mask_of a2 = 4
 
-abbrev pub setsBy : Kind → ℕ
-setsBy (sets a) = mask_of a
-setsBy (adds a) = 0
-setsBy (reads m) = 0
+abbrev pub sets_by : Kind → ℕ
+sets_by (sets a) = mask_of a
+sets_by (adds a) = 0
+sets_by (reads m) = 0
 
-abbrev pub addsBy : Kind → ℕ
-addsBy (sets a) = 0
-addsBy (adds a) = mask_of a
-addsBy (reads m) = 0
+abbrev pub adds_by : Kind → ℕ
+adds_by (sets a) = 0
+adds_by (adds a) = mask_of a
+adds_by (reads m) = 0
 
-abbrev pub readsBy : Kind → ℕ
-readsBy (sets a) = 0
-readsBy (adds a) = 0
-readsBy (reads m) = m
+abbrev pub reads_by : Kind → ℕ
+reads_by (sets a) = 0
+reads_by (adds a) = 0
+reads_by (reads m) = m
 
-abbrev pub writesBy : Kind → ℕ
-writesBy (sets a) = mask_of a
-writesBy (adds a) = mask_of a
-writesBy (reads m) = 0
+abbrev pub writes_by : Kind → ℕ
+writes_by (sets a) = mask_of a
+writes_by (adds a) = mask_of a
+writes_by (reads m) = 0
 
-unfoldable pub setMask : ℕ → ℕ
-setMask m = setsBy (kind_at diskTable m)
+unfoldable pub set_mask : ℕ → ℕ
+set_mask m = sets_by (kind_at disk_table m)
 
-unfoldable pub addMask : ℕ → ℕ
-addMask m = addsBy (kind_at diskTable m)
+unfoldable pub add_mask : ℕ → ℕ
+add_mask m = adds_by (kind_at disk_table m)
 
-unfoldable pub readMask : ℕ → ℕ
-readMask m = readsBy (kind_at diskTable m)
+unfoldable pub read_mask : ℕ → ℕ
+read_mask m = reads_by (kind_at disk_table m)
 
-unfoldable pub writeMask : ℕ → ℕ
-writeMask m = writesBy (kind_at diskTable m)
+unfoldable pub write_mask : ℕ → ℕ
+write_mask m = writes_by (kind_at disk_table m)
 
 -- The index of a method in the table; 0 for an unknown method.
 unfoldable pub index_of : ℕ → ℕ
@@ -59,31 +59,31 @@ index_of m = cond (ltb m 7) m 0
 -- Its value; its error; its second of measuring; its flag; what it was told.
 abbrev pub bounds_of : ℕ → ℕ → ℕ → List ℕ
 bounds_of used promised clock =
-    mostValue ∷ mostValue ∷ mostValue ∷ mostState ∷ 0 ∷ 0 ∷ 0
-    ∷ used ∷ promised ∷ promised ∷ 0 ∷ mostError ∷ mostError ∷ mostError
+    most_value ∷ most_value ∷ most_value ∷ most_state ∷ 0 ∷ 0 ∷ 0
+    ∷ used ∷ promised ∷ promised ∷ 0 ∷ most_error ∷ most_error ∷ most_error
     ∷ clock ∷ clock ∷ clock ∷ clock ∷ 0 ∷ 0 ∷ 0
-    ∷ 0 ∷ 0 ∷ 0 ∷ 0 ∷ mostFlag ∷ mostFlag ∷ mostFlag
-    ∷ 0 ∷ 0 ∷ 0 ∷ 0 ∷ mostError ∷ mostError ∷ mostError ∷ []
+    ∷ 0 ∷ 0 ∷ 0 ∷ 0 ∷ most_flag ∷ most_flag ∷ most_flag
+    ∷ 0 ∷ 0 ∷ 0 ∷ 0 ∷ most_error ∷ most_error ∷ most_error ∷ []
 
 -- ---- the kinds that a test tells apart
 
-abbrev pub isReading : Kind → Bool
-isReading (sets a) = false
-isReading (adds a) = false
-isReading (reads m) = true
+abbrev pub is_reading : Kind → Bool
+is_reading (sets a) = false
+is_reading (adds a) = false
+is_reading (reads m) = true
 
-abbrev pub isAdd : Kind → Bool
-isAdd (sets a) = false
-isAdd (adds a) = true
-isAdd (reads m) = false
+abbrev pub is_add : Kind → Bool
+is_add (sets a) = false
+is_add (adds a) = true
+is_add (reads m) = false
 
 -- It sets the state.
-abbrev pub setsState : Kind → Bool
-setsState (sets a0) = false
-setsState (sets a1) = false
-setsState (sets a2) = true
-setsState (adds a) = false
-setsState (reads m) = false
+abbrev pub sets_state : Kind → Bool
+sets_state (sets a0) = false
+sets_state (sets a1) = false
+sets_state (sets a2) = true
+sets_state (adds a) = false
+sets_state (reads m) = false
 
 -- The attribute that a write writes; the state for a reading.
 abbrev pub written_by : Figures → Kind → Attr
@@ -96,21 +96,21 @@ abbrev pub alone : Figures → ℕ → Core
 alone f now = record { clock = now; figures = f; active = [] }
 
 -- Precondition (a) looks at the clock and the figures alone.
-unfoldable pub freshAt : Figures → ℕ → Kind → ℕ → Bool
-freshAt f now k flag = fresh diskTable (alone f now) k flag
+unfoldable pub fresh_at : Figures → ℕ → Kind → ℕ → Bool
+fresh_at f now k flag = fresh disk_table (alone f now) k flag
 
 -- Precondition (d), with the sum of the active adds handed in.
-abbrev pub rangedBy : Figures → ℕ → Kind → ℤ → Bool
-rangedBy f sum (sets a) z = true
-rangedBy f sum (adds a) d = leb (size (attr f a).value + sum + size d) mostValue
-rangedBy f sum (reads m) z = true
+abbrev pub ranged_by : Figures → ℕ → Kind → ℤ → Bool
+ranged_by f sum (sets a) z = true
+ranged_by f sum (adds a) d = leb (size (attr f a).value + sum + size d) most_value
+ranged_by f sum (reads m) z = true
 
 -- Preconditions (a) to (d), with the sum of the active adds handed in.
-unfoldable pub preOf : Figures → ℕ → ℕ → Claim → Bool
-preOf f now sum c =
-    allTrue
-    (freshAt f now (kind_at diskTable c.method) c.flag
-    ∷ addable diskTable (alone f now) (kind_at diskTable c.method) c.error
-    ∷ bearable diskTable (alone f now) (kind_at diskTable c.method) c.error
-    ∷ rangedBy f sum (kind_at diskTable c.method) c.value
+unfoldable pub pre_of : Figures → ℕ → ℕ → Claim → Bool
+pre_of f now sum c =
+    all_true
+    (fresh_at f now (kind_at disk_table c.method) c.flag
+    ∷ addable disk_table (alone f now) (kind_at disk_table c.method) c.error
+    ∷ bearable disk_table (alone f now) (kind_at disk_table c.method) c.error
+    ∷ ranged_by f sum (kind_at disk_table c.method) c.value
     ∷ [])

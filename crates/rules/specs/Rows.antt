@@ -1,11 +1,11 @@
 -- A list of at most eight claims, as an array of eight with a count: what the code keeps, and the list that it stands for.
 use Rattle.std.specs.Prelude.{ℕ, zero, suc, ◌≤◌, Bool, cond, List, [], ◌∷◌, ◌≡◌, pos, length, take, get_or}
 use Rattle.law.specs.declared.Claim.{Claim}
-use Rattle.law.specs.Calls.{hasTicket}
+use Rattle.law.specs.Calls.{has_ticket}
 
 -- What stands in a place that holds no claim.
-abbrev pub noClaim : Claim
-noClaim =
+abbrev pub no_claim : Claim
+no_claim =
     record {
       ticket = 0;
       method = 0;
@@ -22,7 +22,7 @@ noClaim =
 pub record Row (a : List Claim) (n : ℕ) : Type 0 where
   pub room : length a ≡ 8
   pub few : n ≤ 8
-  pub clear : (k : ℕ) → n ≤ k → get_or a k noClaim ≡ noClaim
+  pub clear : (k : ℕ) → n ≤ k → get_or a k no_claim ≡ no_claim
 
 -- Such an array, whose first n claims are the list l.
 pub record RowIs (a : List Claim) (n : ℕ) (l : List Claim) : Type 0 where
@@ -36,16 +36,16 @@ first_of p (x ∷ xs) = cond (p x) 0 (suc (first_of p xs))
 
 -- The place of the claim of ticket n.
 abbrev pub place_of : ℕ → List Claim → ℕ
-place_of n ws = first_of (hasTicket n) ws
+place_of n ws = first_of (has_ticket n) ws
 
 -- The list without what stands at a place.
-abbrev pub removeAt : {A : Type 0} → ℕ → List A → List A
-removeAt i [] = []
-removeAt zero (x ∷ xs) = xs
-removeAt (suc i) (x ∷ xs) = x ∷ removeAt i xs
+abbrev pub remove_at : {A : Type 0} → ℕ → List A → List A
+remove_at i [] = []
+remove_at zero (x ∷ xs) = xs
+remove_at (suc i) (x ∷ xs) = x ∷ remove_at i xs
 
 -- The list with y put in at a place.
-abbrev pub insertAt : {A : Type 0} → ℕ → A → List A → List A
-insertAt zero y xs = y ∷ xs
-insertAt (suc i) y [] = y ∷ []
-insertAt (suc i) y (x ∷ xs) = x ∷ insertAt i y xs
+abbrev pub insert_at : {A : Type 0} → ℕ → A → List A → List A
+insert_at zero y xs = y ∷ xs
+insert_at (suc i) y [] = y ∷ []
+insert_at (suc i) y (x ∷ xs) = x ∷ insert_at i y xs

@@ -2,8 +2,8 @@
 // places of either array hold the active and the waiting ones. And the disk that an open leaves.
 
 ghost use Rattle.std.specs.Prelude.{◌≡◌};
-ghost use Rattle.law.specs.Calls.{newAttr, opened as lawOpened};
-ghost use Rattle.rules.specs.Disks.{byValue};
+ghost use Rattle.law.specs.Calls.{new_attr, opened as law_opened};
+ghost use Rattle.rules.specs.Disks.{by_value};
 
 use crate::row::no_claim;
 use law::{Attr, Claim};
@@ -23,7 +23,7 @@ pub struct Disk {
 
 // The opened disk: no claims, and every figure 0 at second now.
 pub fn opened(now: u32, l0: u32, l1: u32) -> Disk
-    ensures { result ≡ byValue (lawOpened now l0 l1) }
+    ensures { result ≡ by_value (law_opened now l0 l1) }
 {
     let none = no_claim();
     Disk {
@@ -41,7 +41,7 @@ pub fn opened(now: u32, l0: u32, l1: u32) -> Disk
 
 // A figure of an opened disk.
 fn blank(now: u32, limit: u32) -> Attr
-    ensures { result ≡ newAttr now limit }
+    ensures { result ≡ new_attr now limit }
 {
     Attr {
         value: 0,

@@ -1,12 +1,12 @@
 // The fields of a claim and of an open: refusals 15 to 19, which need no decision.
 
 ghost use Rattle.std.specs.Prelude.{◌≡◌};
-ghost use Rattle.law.specs.Base.{allTrue};
+ghost use Rattle.law.specs.Base.{all_true};
 ghost use Rattle.law.specs.Entries.{kind_at, kind_of};
-ghost use Rattle.law.specs.Calls.{fieldTests, ownFits, limitsFit};
-ghost use Rattle.law.specs.DiskType.{diskTable};
-ghost use Rattle.rules.specs.Methods.{figuresOf};
-ghost use Rattle.rules.specs.Answers.{valueBy, firstRefusal, firstRules};
+ghost use Rattle.law.specs.Calls.{field_tests, own_fits, limits_fit};
+ghost use Rattle.law.specs.DiskType.{disk_table};
+ghost use Rattle.rules.specs.Methods.{figures_of};
+ghost use Rattle.rules.specs.Answers.{value_by, first_refusal, first_rules};
 
 use crate::figures::written;
 use crate::method::{is_known, is_reading, sets_state};
@@ -17,7 +17,7 @@ use num::signed::{size, within};
 
 // A state is a code 0 to 255; every other value lies within 1,000,000,000, either way.
 fn value_fits(m: u32, value: i32) -> bool
-    ensures { result ≡ valueBy (kind_at diskTable m) value }
+    ensures { result ≡ value_by (kind_at disk_table m) value }
 {
     if sets_state(m) {
         if value < 0 {
@@ -30,7 +30,7 @@ fn value_fits(m: u32, value: i32) -> bool
 
 // 17: the fields of a claim at second now.
 pub(crate) fn fields_fit(c: Claim, now: u32) -> bool
-    ensures { result ≡ allTrue (fieldTests now (kind_of diskTable c) c) }
+    ensures { result ≡ all_true (field_tests now (kind_of disk_table c) c) }
 {
     if MOST_ERROR < c.error {
         return false;
@@ -52,7 +52,7 @@ pub(crate) fn fields_fit(c: Claim, now: u32) -> bool
 
 // 18: a write's own error is within its attribute's limit.
 pub(crate) fn own_fits(m: u32, error: u32, used: Attr, promised: Attr, state: Attr) -> bool
-    ensures { result ≡ ownFits (figuresOf used promised state) (kind_at diskTable m) error }
+    ensures { result ≡ own_fits (figures_of used promised state) (kind_at disk_table m) error }
 {
     if is_reading(m) {
         return true;
@@ -70,7 +70,7 @@ pub enum Tested {
 
 // The first of the refusals 15 to 19 that applies to a claim, or that none does.
 pub fn checked(c: Claim, now: u32, clock: u32, used: Attr, promised: Attr, state: Attr) -> Tested
-    ensures { result ≡ firstRefusal (firstRules (figuresOf used promised state) clock now c) }
+    ensures { result ≡ first_refusal (first_rules (figures_of used promised state) clock now c) }
 {
     if now < clock {
         return Tested::Refused(Refusal::Clock);
@@ -92,7 +92,7 @@ pub fn checked(c: Claim, now: u32, clock: u32, used: Attr, promised: Attr, state
 
 // Whether the limits that an open gives to used and promised are in range; else it is refused 17.
 pub fn limits_fit(l0: u32, l1: u32) -> bool
-    ensures { result ≡ limitsFit l0 l1 }
+    ensures { result ≡ limits_fit l0 l1 }
 {
     if MOST_ERROR < l0 {
         return false;

@@ -4,9 +4,9 @@
 ghost use Rattle.std.specs.Prelude.{cond, ◌&&◌, ◌≡◌, ◌+◌, ◌≤◌, leb, pos};
 ghost use Rattle.num.specs.Metric.{size};
 ghost use Rattle.law.specs.Entries.{kind_at};
-ghost use Rattle.law.specs.Granting.{gapBy, start_by, limitBy, toldBy, carriedBy};
-ghost use Rattle.law.specs.DiskType.{diskTable};
-ghost use Rattle.rules.specs.Methods.{figuresOf, written_by, freshAt, preOf};
+ghost use Rattle.law.specs.Granting.{gap_by, start_by, limit_by, told_by, carried_by};
+ghost use Rattle.law.specs.DiskType.{disk_table};
+ghost use Rattle.rules.specs.Methods.{figures_of, written_by, fresh_at, pre_of};
 
 use crate::method::{is_add, is_reading, reads, writes};
 use law::limits::MOST_VALUE;
@@ -38,7 +38,7 @@ fn signed_if_read(read: bool, x: i32) -> i64
 
 // The error that the figures carry for a method: the sum of the amounts that it reads.
 pub(crate) fn carried(m: u32, used: Attr, promised: Attr, state: Attr) -> u64
-    ensures value { result ≡ carriedBy (figuresOf used promised state) (kind_at diskTable m) }
+    ensures value { result ≡ carried_by (figures_of used promised state) (kind_at disk_table m) }
     ensures upper_bound { result ≤ 12884901885 }
 {
     let mask = reads(m);
@@ -49,7 +49,7 @@ pub(crate) fn carried(m: u32, used: Attr, promised: Attr, state: Attr) -> u64
 
 // What a method is told: the sum of the values that it reads, 0 for a write.
 pub fn told(m: u32, used: Attr, promised: Attr, state: Attr) -> i64
-    ensures value { result ≡ toldBy (figuresOf used promised state) (kind_at diskTable m) }
+    ensures value { result ≡ told_by (figures_of used promised state) (kind_at disk_table m) }
     ensures result_bound { size result ≤ 6442450944 }
 {
     let mask = reads(m);
@@ -60,7 +60,7 @@ pub fn told(m: u32, used: Attr, promised: Attr, state: Attr) -> i64
 
 // The attribute that a write writes; the state for a reading, which writes none.
 pub(crate) fn written(m: u32, used: Attr, promised: Attr, state: Attr) -> Attr
-    ensures { result ≡ written_by (figuresOf used promised state) (kind_at diskTable m) }
+    ensures { result ≡ written_by (figures_of used promised state) (kind_at disk_table m) }
 {
     let mask = writes(m);
     if bit(mask, 0) {
@@ -74,7 +74,7 @@ pub(crate) fn written(m: u32, used: Attr, promised: Attr, state: Attr) -> Attr
 
 // The gap that a write of a value leaves to the present figures: |z − value| for a set, |d| for an add.
 pub(crate) fn gap_of(m: u32, value: i32, used: Attr, promised: Attr, state: Attr) -> u64
-    ensures value { result ≡ gapBy (figuresOf used promised state) (kind_at diskTable m) value }
+    ensures value { result ≡ gap_by (figures_of used promised state) (kind_at disk_table m) value }
     ensures upper_bound { result ≤ 4294967295 }
 {
     if is_reading(m) {
@@ -90,7 +90,7 @@ pub(crate) fn gap_of(m: u32, value: i32, used: Attr, promised: Attr, state: Attr
 // The starting amount: a set, its own error; an add, the attribute's amount + its own error; a
 // reading, the sum of the amounts read.
 pub fn start(m: u32, error: u32, used: Attr, promised: Attr, state: Attr) -> u64
-    ensures value { result ≡ start_by (figuresOf used promised state) (kind_at diskTable m) error }
+    ensures value { result ≡ start_by (figures_of used promised state) (kind_at disk_table m) error }
     ensures upper_bound { result ≤ 12884901885 }
 {
     if is_reading(m) {
@@ -105,7 +105,7 @@ pub fn start(m: u32, error: u32, used: Attr, promised: Attr, state: Attr) -> u64
 
 // What the total must stay within: the attribute's limit, or the stated limit of a reading.
 pub fn limit(m: u32, error: u32, used: Attr, promised: Attr, state: Attr) -> u32
-    ensures { result ≡ limitBy (figuresOf used promised state) (kind_at diskTable m) error }
+    ensures { result ≡ limit_by (figures_of used promised state) (kind_at disk_table m) error }
 {
     if is_reading(m) {
         return error;
@@ -127,7 +127,7 @@ fn stale(read: bool, stamp: u32, valid: u64, now: u32) -> bool
 
 // Precondition (a): for each attribute read, stamp + validity > now.
 pub(crate) fn fresh(m: u32, flag: u32, now: u32, used: Attr, promised: Attr, state: Attr) -> bool
-    ensures { result ≡ freshAt (figuresOf used promised state) now (kind_at diskTable m) flag }
+    ensures { result ≡ fresh_at (figures_of used promised state) now (kind_at disk_table m) flag }
 {
     if flag == 0 {
         return true;
@@ -145,7 +145,7 @@ pub(crate) fn fresh(m: u32, flag: u32, now: u32, used: Attr, promised: Attr, sta
 // Preconditions (a) to (d) at second now; adds is the sum of |d| over the active adds.
 pub fn preconditions(c: Claim, now: u32, adds: u64, used: Attr, promised: Attr, state: Attr) -> bool
     requires { adds ≤ 34359738368 }
-    ensures { result ≡ preOf (figuresOf used promised state) now adds c }
+    ensures { result ≡ pre_of (figures_of used promised state) now adds c }
 {
     let m = c.method;
     if is_add(m) {

@@ -2,11 +2,11 @@
 // with one bit for each attribute, and its row in the compatibility table.
 
 ghost use Rattle.std.specs.Prelude.{◌≡◌, ◌<◌, ltb};
-ghost use Rattle.law.specs.Entries.{entryBy, kind_at};
-ghost use Rattle.law.specs.DiskType.{diskTable};
+ghost use Rattle.law.specs.Entries.{entry_by, kind_at};
+ghost use Rattle.law.specs.DiskType.{disk_table};
 ghost use Rattle.law.specs.TableLaws.{entry_at};
-ghost use Rattle.rules.specs.Methods.{setMask, addMask, readMask, writeMask, isReading, isAdd, setsState, bounds_of, index_of};
-ghost use Rattle.rules.specs.Masks.{word_of, masksBy, masksOf};
+ghost use Rattle.rules.specs.Methods.{set_mask, add_mask, read_mask, write_mask, is_reading, is_add, sets_state, bounds_of, index_of};
+ghost use Rattle.rules.specs.Masks.{word_of, masks_by, masks_of};
 
 use law::Entry;
 use law::Entry::{A, D, G, N};
@@ -80,7 +80,7 @@ fn word(sets: u8, adds: u8, reads: u8) -> u32
 // the method sets or reads, or reads what the method writes: two adds have no say on each other, nor have two readings. And it keeps
 // the method out if of the two one adds to what the other sets; or if both touch the state, and one sets it.
 fn doing(sets: u8, adds: u8, reads: u8) -> Masks
-    ensures { result ≡ masksBy sets adds reads }
+    ensures { result ≡ masks_by sets adds reads }
 {
     Masks {
         sets,
@@ -95,7 +95,7 @@ fn doing(sets: u8, adds: u8, reads: u8) -> Masks
 // The masks of a method. An unknown method does nothing. What depends on the masks alone is computed by the compiler, which makes a
 // table of it.
 pub(crate) fn masks_of(m: u32) -> Masks
-    ensures { result ≡ masksOf m }
+    ensures { result ≡ masks_of m }
 {
     match m {
         REPORT_USED => doing(USED, 0, 0),
@@ -111,46 +111,46 @@ pub(crate) fn masks_of(m: u32) -> Masks
 
 // The mask of what a method sets, of what it adds to, of what it reads, and of what it writes, by setting it or adding to it.
 pub fn sets(m: u32) -> u8
-    ensures { result ≡ setMask m }
+    ensures { result ≡ set_mask m }
 {
     masks_of(m).sets
 }
 
 pub fn adds(m: u32) -> u8
-    ensures { result ≡ addMask m }
+    ensures { result ≡ add_mask m }
 {
     masks_of(m).adds
 }
 
 pub(crate) fn reads(m: u32) -> u8
-    ensures { result ≡ readMask m }
+    ensures { result ≡ read_mask m }
 {
     masks_of(m).reads
 }
 
 pub fn writes(m: u32) -> u8
-    ensures { result ≡ writeMask m }
+    ensures { result ≡ write_mask m }
 {
     sets(m) | adds(m)
 }
 
 // Whether a method writes nothing: a reading, or an unknown method.
 pub fn is_reading(m: u32) -> bool
-    ensures { result ≡ isReading (kind_at diskTable m) }
+    ensures { result ≡ is_reading (kind_at disk_table m) }
 {
     READ_USED <= m
 }
 
 // Whether a method adds.
 pub(crate) fn is_add(m: u32) -> bool
-    ensures { result ≡ isAdd (kind_at diskTable m) }
+    ensures { result ≡ is_add (kind_at disk_table m) }
 {
     m == ADD_PROMISED
 }
 
 // Whether a method sets the state, whose values are codes.
 pub fn sets_state(m: u32) -> bool
-    ensures { result ≡ setsState (kind_at diskTable m) }
+    ensures { result ≡ sets_state (kind_at disk_table m) }
 {
     m == SET_STATE
 }
@@ -189,7 +189,7 @@ pub fn index_of(m: u32) -> usize
 // with all.
 pub fn entry(row: u32, col: u32, found: Entry) -> Entry
     requires { found ≡ entry_at (index_of row) (index_of col) }
-    ensures { result ≡ entryBy (kind_at diskTable row) (kind_at diskTable col) }
+    ensures { result ≡ entry_by (kind_at disk_table row) (kind_at disk_table col) }
 {
     if row < METHODS {
         if col < METHODS {

@@ -1,9 +1,9 @@
 // What two claims have to do with each other: their entry, what it lets pass, costs and raises, and barring.
 
 ghost use Rattle.std.specs.Prelude.{◌≡◌, ◌≤◌};
-ghost use Rattle.law.specs.Entries.{isAlways};
-ghost use Rattle.rules.specs.Methods.{figuresOf};
-ghost use Rattle.rules.specs.Pairs.{addOf, letsBy, costBetween, raiseOf, barsBy};
+ghost use Rattle.law.specs.Entries.{is_always};
+ghost use Rattle.rules.specs.Methods.{figures_of};
+ghost use Rattle.rules.specs.Pairs.{add_of, lets_by, cost_between, raise_of, bars_by};
 
 use crate::figures::{gap_of, preconditions};
 use crate::method::is_add;
@@ -12,7 +12,7 @@ use num::signed::{gap, size};
 
 // |d| of a claim that adds, 0 of any other.
 pub(crate) fn add_part(x: Claim) -> u64
-    ensures value { result ≡ addOf x }
+    ensures value { result ≡ add_of x }
     ensures upper_bound { result ≤ 2147483648 }
 {
     if is_add(x.method) {
@@ -25,7 +25,7 @@ pub(crate) fn add_part(x: Claim) -> u64
 // Whether one active claim lets the requested one pass, which raises a reading's amount by so much.
 pub fn lets(e: Entry, reading: bool, amount: u32, most: u32, raise: u64) -> bool
     requires { raise ≤ 8589934590 }
-    ensures { result ≡ letsBy e reading amount most raise }
+    ensures { result ≡ lets_by e reading amount most raise }
 {
     match e {
         Entry::A => true,
@@ -45,7 +45,7 @@ pub fn cost(
     promised: Attr,
     state: Attr,
 ) -> u64
-    ensures value { result ≡ costBetween (figuresOf used promised state) e reading c x }
+    ensures value { result ≡ cost_between (figures_of used promised state) e reading c x }
     ensures upper_bound { result ≤ 4294967295 }
 {
     match e {
@@ -63,14 +63,14 @@ pub fn cost(
 
 // How much the requested claim c raises the amount of a reading: its own error and its gap.
 pub fn raise_of(c: Claim, used: Attr, promised: Attr, state: Attr) -> u64
-    ensures value { result ≡ raiseOf (figuresOf used promised state) c }
+    ensures value { result ≡ raise_of (figures_of used promised state) c }
     ensures upper_bound { result ≤ 8589934590 }
 {
     c.error as u64 + gap_of(c.method, c.value, used, promised, state)
 }
 
 fn is_always(e: Entry) -> bool
-    ensures { result ≡ isAlways e }
+    ensures { result ≡ is_always e }
 {
     match e {
         Entry::A => true,
@@ -92,7 +92,7 @@ pub fn bars(
     state: Attr,
 ) -> bool
     requires { adds ≤ 34359738368 }
-    ensures { result ≡ barsBy (figuresOf used promised state) now adds priority e w }
+    ensures { result ≡ bars_by (figures_of used promised state) now adds priority e w }
 {
     if w.priority < priority {
         return false;

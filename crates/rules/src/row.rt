@@ -2,13 +2,13 @@
 // specs/RowLaws what loops over the places use. Here: what stands in a clear place, and the order of the pass.
 ghost use Rattle.std.specs.Prelude.{◌≡◌, ◌+◌, ◌*◌};
 ghost use Rattle.law.specs.Calls.{before};
-ghost use Rattle.rules.specs.Rows.{noClaim};
+ghost use Rattle.rules.specs.Rows.{no_claim};
 
 use law::Claim;
 
 // What stands in a place that holds no claim.
 pub fn no_claim() -> Claim
-    ensures { result ≡ noClaim }
+    ensures { result ≡ no_claim }
 {
     Claim {
         ticket: 0,

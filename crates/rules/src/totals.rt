@@ -2,7 +2,7 @@
 // decision knows whether one of the claims has an entry other than A with a method, and whether one has entry N.
 
 ghost use Rattle.std.specs.Prelude.{◌≡◌, ◌≤◌};
-ghost use Rattle.rules.specs.Totals.{noTotals, withClaim, haveSay, keepOut};
+ghost use Rattle.rules.specs.Totals.{no_totals, with_claim, have_say, keep_out};
 
 use crate::method::masks_of;
 use crate::pair::add_part;
@@ -16,7 +16,7 @@ pub struct Totals {
 
 // The totals of no claims.
 pub fn no_totals() -> Totals
-    ensures { result ≡ noTotals }
+    ensures { result ≡ no_totals }
 {
     Totals { sum: 0, does: 0 }
 }
@@ -24,7 +24,7 @@ pub fn no_totals() -> Totals
 // The totals with one claim more.
 pub fn with_claim(t: Totals, c: Claim) -> Totals
     requires { t.sum ≤ 17179869184 }
-    ensures { result ≡ withClaim t c }
+    ensures { result ≡ with_claim t c }
 {
     let sum = t.sum + add_part(c);
     Totals {
@@ -35,14 +35,14 @@ pub fn with_claim(t: Totals, c: Claim) -> Totals
 
 // Whether one of the claims has an entry other than A with method m.
 pub fn have_say(t: Totals, m: u32) -> bool
-    ensures { result ≡ haveSay t m }
+    ensures { result ≡ have_say t m }
 {
     t.does & masks_of(m).say != 0
 }
 
 // Whether one of the claims has entry N with method m.
 pub fn keep_out(t: Totals, m: u32) -> bool
-    ensures { result ≡ keepOut t m }
+    ensures { result ≡ keep_out t m }
 {
     t.does & masks_of(m).out != 0
 }

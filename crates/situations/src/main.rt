@@ -6,7 +6,7 @@ mod record;
 mod rows;
 
 ghost use Rattle.std.specs.Prelude.{◌≡◌, ◌<◌, ◌≤◌, length};
-ghost use Rattle.situations.specs.Rows.{afterRow};
+ghost use Rattle.situations.specs.Rows.{after_row};
 
 use crate::lines::{print_answer, print_shown};
 use crate::record::{DISK, record_of};
@@ -63,7 +63,7 @@ fn row(i: usize) -> [u32; 8]
 // One row: makes its call and prints the answer, or prints what it shows.
 fn turn(board: &mut [u8], situation: u32, q: [u32; 8])
     requires { length board.old ≡ 49_216 }
-    ensures { board.new ≡ afterRow board.old q }
+    ensures { board.new ≡ after_row board.old q }
 {
     let kind = q[0];
     if kind == SHOW {

@@ -1,7 +1,7 @@
 // The record of a row of the table.
 
 ghost use Rattle.std.specs.Prelude.{◌≡◌, ◌%◌};
-ghost use Rattle.situations.specs.Rows.{claim_of, recordOf};
+ghost use Rattle.situations.specs.Rows.{claim_of, record_of};
 
 use crate::rows::{CLOSED, OPEN, RELEASE};
 use desk::record::laid_out;
@@ -13,7 +13,7 @@ const CLOSED_DISK: u8 = 4;
 
 // The record of a row.
 pub(crate) fn record_of(q: [u32; 8]) -> [u8; 24]
-    ensures { result ≡ recordOf q }
+    ensures { result ≡ record_of q }
 {
     let kind = q[0];
     if kind == OPEN {

@@ -2,12 +2,12 @@
 // them are raised.
 
 ghost use Rattle.std.specs.Prelude.{not, false, true, ◌≡◌, ◌+◌, ◌-◌, ◌≤◌, ◌<◌, take, get_or, set};
-ghost use Rattle.rules.specs.Rows.{noClaim, Row, RowIs, first_of, place_of, removeAt};
+ghost use Rattle.rules.specs.Rows.{no_claim, Row, RowIs, first_of, place_of, remove_at};
 ghost use Rattle.law.specs.Calls.{before, queue};
-ghost use Rattle.law.specs.Granting.{putTold};
-ghost use Rattle.rules.specs.Pairs.{letsBy};
+ghost use Rattle.law.specs.Granting.{put_told};
+ghost use Rattle.rules.specs.Pairs.{lets_by};
 ghost use Rattle.part.specs.Layout.{slots};
-ghost use Rattle.slots.specs.Slots.{Slots, mapTo, raiseBy, raiseWith, Raisable};
+ghost use Rattle.slots.specs.Slots.{Slots, map_to, raise_by, raise_with, Raisable};
 
 use law::{Claim, Entry};
 use num::word::put_word;
@@ -21,7 +21,7 @@ use rules::row::{before, no_claim};
 fn slot_at(row: &[u8], i: usize) -> Claim
     requires slots { Slots row.now }
     requires i_bound { i < 8 }
-    ensures { result ≡ get_or (slots 8 row.now) i noClaim }
+    ensures { result ≡ get_or (slots 8 row.now) i no_claim }
 {
     claim_at(row, SLOT_BYTES * i)
 }
@@ -58,7 +58,7 @@ pub fn take_out(row: &mut [u8], n: usize, at: usize)
     requires row { Row (slots 8 row.old) n }
     requires at_lt_n { at < n }
     ensures slots_2 { Slots row.new }
-    ensures row_is { RowIs (slots 8 row.new) (n - 1) (removeAt at (take n (slots 8 row.old))) }
+    ensures row_is { RowIs (slots 8 row.new) (n - 1) (remove_at at (take n (slots 8 row.old))) }
 {
     let last = n - 1;
     let mut i = at;
@@ -128,7 +128,7 @@ fn put_amount(row: &mut [u8], i: usize, amount: u32)
     requires slots { Slots row.old }
     requires i_bound { i < 8 }
     ensures slots_2 { Slots row.new }
-    ensures row_after { slots 8 row.new ≡ set (slots 8 row.old) i (putTold (get_or (slots 8 row.old) i noClaim) (get_or (slots 8 row.old) i noClaim).told amount) }
+    ensures row_after { slots 8 row.new ≡ set (slots 8 row.old) i (put_told (get_or (slots 8 row.old) i no_claim) (get_or (slots 8 row.old) i no_claim).told amount) }
 {
     put_word(row, SLOT_BYTES * i + SLOT_AMOUNT, amount);
 }
@@ -136,8 +136,8 @@ fn put_amount(row: &mut [u8], i: usize, amount: u32)
 // The amount of the active claim x after the grant of a write: e is their entry, and raise is the write's own error and gap, by which
 // the amount of a reading grows.
 fn raised(x: Claim, e: Entry, raise: u64) -> u32
-    requires { letsBy e false x.amount x.error raise ≡ true }
-    ensures { result ≡ (raiseBy x e raise).amount }
+    requires { lets_by e false x.amount x.error raise ≡ true }
+    ensures { result ≡ (raise_by x e raise).amount }
 {
     match e {
         Entry::A => x.amount,
@@ -153,7 +153,7 @@ pub fn raise_all(row: &mut [u8], n: usize, m: u32, raise: u64)
     requires n_bound { n ≤ 8 }
     requires raisable { Raisable (slots 8 row.old) n m raise }
     ensures slots_2 { Slots row.new }
-    ensures row_after { slots 8 row.new ≡ mapTo n (raiseWith m raise) (slots 8 row.old) }
+    ensures row_after { slots 8 row.new ≡ map_to n (raise_with m raise) (slots 8 row.old) }
 {
     let table = TABLE;
     let col = index_of(m);

@@ -6,37 +6,37 @@ use mathlib.Core.Path.{◌≡◌, refl, sym, ap, ◌∙◌}
 use borrow.Author.Tests.{eqb-true}
 use lib.Bits.{bit_and, bit_or, and_comm}
 use lib.Dec.{eqb}
-use Rattle.num.specs.Bits.{hasBit, bit-set, bit-set-other, or-none, apart-bits}
+use Rattle.num.specs.Bits.{has_bit, bit_set, bit_set_other, or_none, apart_bits}
 use Rattle.law.specs.declared.Claim.{Claim}
-use Rattle.law.specs.Base.{everyPair, All, Pairs}
+use Rattle.law.specs.Base.{every_pair, All, Pairs}
 use Rattle.law.specs.Lists.{all_say, never_true}
 use Rattle.sound.specs.declared.tickets.Marks.{Marks}
 use Rattle.sound.specs.Tests.{apart}
-use Rattle.sound.specs.Seen.{bit_of, withTicket, marksFrom, marksOf}
-use Rattle.sound.proofs.WalkLaws.{says-two-by-two}
+use Rattle.sound.specs.Seen.{bit_of, with_ticket, marks_from, marks_of}
+use Rattle.sound.proofs.WalkLaws.{says_two_by_two}
 
-pub marks-append : (m : Marks) (xs ys : List Claim) → marksFrom m (xs ++ ys) ≡ marksFrom (marksFrom m xs) ys
-unfolding marksFrom
-marks-append m [] ys = refl
-marks-append m (x ∷ xs) ys = marks-append (withTicket m x) xs ys
+pub marks_append : (m : Marks) (xs ys : List Claim) → marks_from m (xs ++ ys) ≡ marks_from (marks_from m xs) ys
+unfolding marks_from
+marks_append m [] ys = refl
+marks_append m (x ∷ xs) ys = marks_append (with_ticket m x) xs ys
 
 -- A turn of a walk, with the claim x; and the end.
-pub marks-on : (m : Marks) {n : Marks} {xs rest : List Claim} {x : Claim} → xs ≡ x ∷ rest → n ≡ withTicket m x →
-    marksFrom n rest ≡ marksFrom m xs
-unfolding marksFrom
-marks-on m e w = rw (e, w)
+pub marks_on : (m : Marks) {n : Marks} {xs rest : List Claim} {x : Claim} → xs ≡ x ∷ rest → n ≡ with_ticket m x →
+    marks_from n rest ≡ marks_from m xs
+unfolding marks_from
+marks_on m e w = rw (e, w)
 
-pub marks-end : (m : Marks) {xs : List Claim} → xs ≡ [] → marksFrom m xs ≡ m
-unfolding marksFrom
-marks-end m e = rw e
+pub marks_end : (m : Marks) {xs : List Claim} → xs ≡ [] → marks_from m xs ≡ m
+unfolding marks_from
+marks_end m e = rw e
 
 -- A bit that is not set beside that of c is not c's, and was not set before.
-module _ (mask : ℕ) (c x : Claim) (h : hasBit (bit_or mask (2 ^ bit_of c)) (bit_of x) ≡ false) where
+module _ (mask : ℕ) (c x : Claim) (h : has_bit (bit_or mask (2 ^ bit_of c)) (bit_of x) ≡ false) where
   unlike : bit_of c ≡ bit_of x → ⊥
-  unlike e = never_true ⊥ (sym h ∙ ap (hasBit (bit_or mask (2 ^ bit_of c))) (sym e) ∙ bit-set mask (bit_of c))
+  unlike e = never_true ⊥ (sym h ∙ ap (has_bit (bit_or mask (2 ^ bit_of c))) (sym e) ∙ bit_set mask (bit_of c))
 
-  unset : hasBit mask (bit_of x) ≡ false
-  unset = sym (bit-set-other mask (bit_of c) (bit_of x) unlike) ∙ h
+  unset : has_bit mask (bit_of x) ≡ false
+  unset = sym (bit_set_other mask (bit_of c) (bit_of x) unlike) ∙ h
 
   differs : apart c x ≡ true
   differs = go (eqb c.ticket x.ticket) refl
@@ -46,22 +46,22 @@ module _ (mask : ℕ) (c x : Claim) (h : hasBit (bit_or mask (2 ^ bit_of c)) (bi
       go false e = refl
 
 -- A mask that shares nothing with a power of 2 does not have its bit.
-bit-unmet : (mask a : ℕ) → bit_and mask (2 ^ a) ≡ 0 → hasBit mask a ≡ false
-bit-unmet mask a h = apart-bits (2 ^ a) mask a (and_comm (2 ^ a) mask ∙ h) (bit-set 0 a)
+bit_unmet : (mask a : ℕ) → bit_and mask (2 ^ a) ≡ 0 → has_bit mask a ≡ false
+bit_unmet mask a h = apart_bits (2 ^ a) mask a (and_comm (2 ^ a) mask ∙ h) (bit_set 0 a)
 
 -- So where nothing is met again, nothing had been, none of the claims has a bit met before, and any two differ.
-marks-say : (m : Marks) (cs : List Claim) → (marksFrom m cs).again ≡ 0 →
-    (m.again ≡ 0) × All (λ c. hasBit m.met (bit_of c) ≡ false) cs × Pairs (λ x y. apart x y ≡ true) cs
-unfolding marksFrom withTicket
-marks-say m [] h = (h, tt, tt)
-marks-say m (c ∷ cs) h =
-    let t = marks-say (withTicket m c) cs h in
-    let o = or-none m.again (bit_and m.met (2 ^ bit_of c)) t.0 in
-    let Unset : Claim → Type 0 = λ x. hasBit (bit_or m.met (2 ^ bit_of c)) (bit_of x) ≡ false in (
+marks_say : (m : Marks) (cs : List Claim) → (marks_from m cs).again ≡ 0 →
+    (m.again ≡ 0) × All (λ c. has_bit m.met (bit_of c) ≡ false) cs × Pairs (λ x y. apart x y ≡ true) cs
+unfolding marks_from with_ticket
+marks_say m [] h = (h, tt, tt)
+marks_say m (c ∷ cs) h =
+    let t = marks_say (with_ticket m c) cs h in
+    let o = or_none m.again (bit_and m.met (2 ^ bit_of c)) t.0 in
+    let Unset : Claim → Type 0 = λ x. has_bit (bit_or m.met (2 ^ bit_of c)) (bit_of x) ≡ false in (
       o.0,
-      (bit-unmet m.met (bit_of c) o.1, all_say Unset (λ x. hasBit m.met (bit_of x) ≡ false) (unset m.met c) cs t.1),
+      (bit_unmet m.met (bit_of c) o.1, all_say Unset (λ x. has_bit m.met (bit_of x) ≡ false) (unset m.met c) cs t.1),
       (all_say Unset (λ x. apart c x ≡ true) (differs m.met c) cs t.1, t.2),
     )
 
-pub marks-apart : (cs : List Claim) → (marksOf cs).again ≡ 0 → everyPair apart cs ≡ true
-marks-apart cs h = (says-two-by-two apart cs).1 (marks-say _ cs h).2
+pub marks_apart : (cs : List Claim) → (marks_of cs).again ≡ 0 → every_pair apart cs ≡ true
+marks_apart cs h = (says_two_by_two apart cs).1 (marks_say _ cs h).2

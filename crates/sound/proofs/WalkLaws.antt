@@ -11,11 +11,11 @@ use lib.ListN.{length, drop, get_or, drop_of_length-le, length-drop}
 use lib.Seq.{drop-cons}
 use native.Mathlib.Numerals.{add-one}
 use Rattle.law.specs.declared.Claim.{Claim}
-use Rattle.law.specs.Base.{allTrue, everyOf, everyPair, Pairs}
+use Rattle.law.specs.Base.{all_true, every_of, every_pair, Pairs}
 use Rattle.law.specs.Calls.{before}
 use Rattle.law.specs.Lists.{all_say, never_true, and_left, and_right}
-use Rattle.law.specs.Says.{Says, says-pairs, says-self}
-use Rattle.rules.specs.Rows.{noClaim}
+use Rattle.law.specs.Says.{Says, says_pairs, says_self}
+use Rattle.rules.specs.Rows.{no_claim}
 
 -- Two tests of which each passes where the other does are equal.
 pub same_test : (a b : Bool) → (a ≡ true → b ≡ true) → (b ≡ true → a ≡ true) → a ≡ b
@@ -25,13 +25,13 @@ same_test false false f g = refl
 
 -- ---- tests of every claim
 
-pub every_true : (xs : List Claim) → everyOf (λ x. true) xs ≡ true
+pub every_true : (xs : List Claim) → every_of (λ x. true) xs ≡ true
 every_true [] = refl
 every_true (x ∷ xs) = every_true xs
 
-pub every-and : (p q : Claim → Bool) (xs : List Claim) → everyOf (λ x. p x && q x) xs ≡ (everyOf p xs && everyOf q xs)
-every-and p q [] = refl
-every-and p q (x ∷ xs) = rw (every-and p q xs) (swap (p x) (q x) (everyOf p xs) (everyOf q xs))
+pub every_and : (p q : Claim → Bool) (xs : List Claim) → every_of (λ x. p x && q x) xs ≡ (every_of p xs && every_of q xs)
+every_and p q [] = refl
+every_and p q (x ∷ xs) = rw (every_and p q xs) (swap (p x) (q x) (every_of p xs) (every_of q xs))
   where
     swap : (a b y z : Bool) → ((a && b) && (y && z)) ≡ ((a && y) && (b && z))
     swap false b y z = refl
@@ -40,30 +40,30 @@ every-and p q (x ∷ xs) = rw (every-and p q xs) (swap (p x) (q x) (everyOf p xs
     swap true false false z = refl
 
 -- Tests that each claim passes in a row, every claim passes one by one.
-pub rows : (ps : List (Claim → Bool)) (xs : List Claim) → everyOf (λ x. allTrue (map (λ p. p x) ps)) xs ≡ allTrue (map (λ p. everyOf p xs) ps)
+pub rows : (ps : List (Claim → Bool)) (xs : List Claim) → every_of (λ x. all_true (map (λ p. p x) ps)) xs ≡ all_true (map (λ p. every_of p xs) ps)
 rows [] xs = every_true xs
-rows (p ∷ ps) xs = every-and p (λ x. allTrue (map (λ q. q x) ps)) xs ∙ ap (λ (b : Bool). everyOf p xs && b) (rows ps xs)
+rows (p ∷ ps) xs = every_and p (λ x. all_true (map (λ q. q x) ps)) xs ∙ ap (λ (b : Bool). every_of p xs && b) (rows ps xs)
 
 -- Two lists pass where both do.
-pub every-join : (p : Claim → Bool) (xs ys : List Claim) → (everyOf p xs && everyOf p ys) ≡ everyOf p (xs ++ ys)
-every-join p [] ys = refl
-every-join p (x ∷ xs) ys = first (p x) (every-join p xs ys)
+pub every_join : (p : Claim → Bool) (xs ys : List Claim) → (every_of p xs && every_of p ys) ≡ every_of p (xs ++ ys)
+every_join p [] ys = refl
+every_join p (x ∷ xs) ys = first (p x) (every_join p xs ys)
   where
-    first : (b : Bool) → (everyOf p xs && everyOf p ys) ≡ everyOf p (xs ++ ys) →
-        ((b && everyOf p xs) && everyOf p ys) ≡ (b && everyOf p (xs ++ ys))
+    first : (b : Bool) → (every_of p xs && every_of p ys) ≡ every_of p (xs ++ ys) →
+        ((b && every_of p xs) && every_of p ys) ≡ (b && every_of p (xs ++ ys))
     first true e = e
     first false e = refl
 
 -- ---- what they say
 
-pub says-two-by-two : {A : Type 0} (r : A → A → Bool) (xs : List A) → Says (everyPair r xs) (Pairs (λ x y. r x y ≡ true) xs)
-says-two-by-two r xs = says-pairs {r = r} {R = λ x y. r x y ≡ true} (λ x y. says-self (r x y)) xs
+pub says_two_by_two : {A : Type 0} (r : A → A → Bool) (xs : List A) → Says (every_pair r xs) (Pairs (λ x y. r x y ≡ true) xs)
+says_two_by_two r xs = says_pairs {r = r} {R = λ x y. r x y ≡ true} (λ x y. says_self (r x y)) xs
 
 -- ---- a turn at index i of any list: the claim there, and those behind it; and the end
 
 module _ (xs : List Claim) (i : ℕ) where
-  pub turn : (j : ℕ) {x : Claim} → i + 1 ≡ j → i < length xs → x ≡ get_or xs i noClaim → drop i xs ≡ x ∷ drop j xs
-  turn j n h e = drop-cons xs i noClaim h ∙ rw (← add-one i, n, e)
+  pub turn : (j : ℕ) {x : Claim} → i + 1 ≡ j → i < length xs → x ≡ get_or xs i no_claim → drop i xs ≡ x ∷ drop j xs
+  turn j n h e = drop-cons xs i no_claim h ∙ rw (← add-one i, n, e)
 
   pub none_left : length xs ≤ i → drop i xs ≡ []
   none_left h = drop_of_length-le xs {i = i} h
@@ -71,17 +71,17 @@ module _ (xs : List Claim) (i : ℕ) where
 -- ---- what a turn leaves to test, where the claim x passes and where it fails
 
 module _ {xs rest : List Claim} {x : Claim} (e : xs ≡ x ∷ rest) where
-  pub each_on : (p : Claim → Bool) → p x ≡ true → everyOf p rest ≡ everyOf p xs
+  pub each_on : (p : Claim → Bool) → p x ≡ true → every_of p rest ≡ every_of p xs
   each_on p h = rw (e, h)
 
-  pub each-not : (p : Claim → Bool) → p x ≡ false → everyOf p xs ≡ false
-  each-not p h = rw (e, h)
+  pub each_not : (p : Claim → Bool) → p x ≡ false → every_of p xs ≡ false
+  each_not p h = rw (e, h)
 
-  pub pairs-on : (r : Claim → Claim → Bool) → everyOf (r x) rest ≡ true → everyPair r rest ≡ everyPair r xs
-  pairs-on r h = rw (e, h)
+  pub pairs_on : (r : Claim → Claim → Bool) → every_of (r x) rest ≡ true → every_pair r rest ≡ every_pair r xs
+  pairs_on r h = rw (e, h)
 
-  pub pairs-not : (r : Claim → Claim → Bool) → everyOf (r x) rest ≡ false → everyPair r xs ≡ false
-  pairs-not r h = rw (e, h)
+  pub pairs_not : (r : Claim → Claim → Bool) → every_of (r x) rest ≡ false → every_pair r xs ≡ false
+  pairs_not r h = rw (e, h)
 
 -- ---- neighbours
 
@@ -92,18 +92,18 @@ neighbours r (x ∷ []) = true
 neighbours r (x ∷ y ∷ zs) = r x y && neighbours r (y ∷ zs)
 
 module _ (r : Claim → Claim → Bool) {xs ys zs : List Claim} {x y : Claim} (e : xs ≡ x ∷ ys) (g : ys ≡ y ∷ zs) where
-  pub next-on : r x y ≡ true → neighbours r ys ≡ neighbours r xs
+  pub next_on_lem : r x y ≡ true → neighbours r ys ≡ neighbours r xs
   unfolding neighbours
-  next-on h = rw (e, g, h)
+  next_on_lem h = rw (e, g, h)
 
-  pub next-not : r x y ≡ false → neighbours r xs ≡ false
+  pub next_not : r x y ≡ false → neighbours r xs ≡ false
   unfolding neighbours
-  next-not h = rw (e, g, h)
+  next_not h = rw (e, g, h)
 
 -- The last of them, and none, have no neighbour.
-pub next-end : (r : Claim → Claim → Bool) (xs : List Claim) (i : ℕ) → length xs ≤ i + 1 → neighbours r (drop i xs) ≡ true
+pub next_end : (r : Claim → Claim → Bool) (xs : List Claim) (i : ℕ) → length xs ≤ i + 1 → neighbours r (drop i xs) ≡ true
 unfolding neighbours
-next-end r xs i h = go (drop i xs) (length-drop i xs)
+next_end r xs i h = go (drop i xs) (length-drop i xs)
   where
     go : (ys : List Claim) → length ys ≡ length xs - i → neighbours r ys ≡ true
     go [] q = refl
@@ -116,9 +116,9 @@ abbrev Before : Claim → Claim → Type 0
 Before x y = before x y ≡ true
 
 -- The one before has the higher priority, or the same and the lower ticket.
-before-by : (x y : Claim) (P : Type 0) → Before x y → (y.priority < x.priority → P) →
+before_by : (x y : Claim) (P : Type 0) → Before x y → (y.priority < x.priority → P) →
     (x.priority ≡ y.priority → x.ticket < y.ticket → P) → P
-before-by x y P h f g = go (ltb y.priority x.priority) (eqb x.priority y.priority) refl refl h
+before_by x y P h f g = go (ltb y.priority x.priority) (eqb x.priority y.priority) refl refl h
   where
     go : (p q : Bool) → ltb y.priority x.priority ≡ p → eqb x.priority y.priority ≡ q →
         (p || (cond q (ltb x.ticket y.ticket) false)) ≡ true → P
@@ -136,32 +136,32 @@ earlier x y e h = go (ltb y.priority x.priority)
     go true = refl
     go false = rw (eq-eqb x.priority y.priority e, lt-ltb x.ticket y.ticket h)
 
-before-trans : (x y z : Claim) → Before x y → Before y z → Before x z
-before-trans x y z h k =
-    before-by x y (Before x z) h
-    (λ p. before-by y z (Before x z) k (λ q. higher x z (omega arith)) (λ q t. higher x z (omega arith)))
-    (λ p s. before-by y z (Before x z) k (λ q. higher x z (omega arith)) (λ q t. earlier x z (omega arith) (omega arith)))
+before_trans : (x y z : Claim) → Before x y → Before y z → Before x z
+before_trans x y z h k =
+    before_by x y (Before x z) h
+    (λ p. before_by y z (Before x z) k (λ q. higher x z (omega arith)) (λ q t. higher x z (omega arith)))
+    (λ p s. before_by y z (Before x z) k (λ q. higher x z (omega arith)) (λ q t. earlier x z (omega arith) (omega arith)))
 
-order-of : (x : Claim) (xs : List Claim) → neighbours before (x ∷ xs) ≡ true → Pairs Before (x ∷ xs)
+order_of : (x : Claim) (xs : List Claim) → neighbours before (x ∷ xs) ≡ true → Pairs Before (x ∷ xs)
 unfolding neighbours
-order-of x [] h = (tt, tt)
-order-of x (y ∷ ys) h =
+order_of x [] h = (tt, tt)
+order_of x (y ∷ ys) h =
     let first = and_left (before x y) (neighbours before (y ∷ ys)) h in
-    let rest = order-of y ys (and_right (before x y) (neighbours before (y ∷ ys)) h) in
-    ((first, all_say (Before y) (Before x) (λ z e. before-trans x y z first e) ys rest.0), rest)
+    let rest = order_of y ys (and_right (before x y) (neighbours before (y ∷ ys)) h) in
+    ((first, all_say (Before y) (Before x) (λ z e. before_trans x y z first e) ys rest.0), rest)
 
-of-order : (xs : List Claim) → Pairs Before xs → neighbours before xs ≡ true
+of_order : (xs : List Claim) → Pairs Before xs → neighbours before xs ≡ true
 unfolding neighbours
-of-order [] h = refl
-of-order (x ∷ []) h = refl
-of-order (x ∷ y ∷ zs) h = rw h.0.0 (of-order (y ∷ zs) h.1)
+of_order [] h = refl
+of_order (x ∷ []) h = refl
+of_order (x ∷ y ∷ zs) h = rw h.0.0 (of_order (y ∷ zs) h.1)
 
 ordered : (xs : List Claim) → neighbours before xs ≡ true → Pairs Before xs
 ordered [] h = tt
-ordered (x ∷ xs) h = order-of x xs h
+ordered (x ∷ xs) h = order_of x xs h
 
 -- Neighbours in order are all in order.
-pub order_is : (xs : List Claim) → neighbours before xs ≡ everyPair before xs
+pub order_is : (xs : List Claim) → neighbours before xs ≡ every_pair before xs
 order_is xs =
-    let says = says-two-by-two before xs in
-    same_test (neighbours before xs) (everyPair before xs) (λ e. says.1 (ordered xs e)) (λ e. of-order xs (says.0 e))
+    let says = says_two_by_two before xs in
+    same_test (neighbours before xs) (every_pair before xs) (λ e. says.1 (ordered xs e)) (λ e. of_order xs (says.0 e))

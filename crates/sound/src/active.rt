@@ -2,10 +2,10 @@
 // decision and the walk over the waiting claims need.
 
 ghost use Rattle.std.specs.Prelude.{true, ◌≡◌};
-ghost use Rattle.rules.specs.Totals.{totalsOf};
+ghost use Rattle.rules.specs.Totals.{totals_of};
 ghost use Rattle.part.specs.Held.{held};
-ghost use Rattle.sound.specs.Tests.{activesFit};
-ghost use Rattle.sound.specs.Seen.{marksOf, Ready};
+ghost use Rattle.sound.specs.Tests.{actives_fit};
+ghost use Rattle.sound.specs.Seen.{marks_of, Ready};
 
 use crate::alone::active_fits;
 use crate::tickets::{Marks, no_marks, with_ticket};
@@ -25,9 +25,9 @@ pub struct Walked {
 // Each active claim fits by itself, no two have entry N, and |promised| with the |d| of the active adds is in range.
 pub(crate) fn actives_fit(s: &[u8], most: &[u32]) -> Walked
     requires { Ready s.now most.now }
-    ensures ok_value { result.ok ≡ activesFit (held s.now) }
-    ensures totals_value { result.ok ≡ true → result.totals ≡ totalsOf (held s.now).core.active }
-    ensures marks_value { result.ok ≡ true → result.marks ≡ marksOf (held s.now).core.active }
+    ensures ok_value { result.ok ≡ actives_fit (held s.now) }
+    ensures totals_value { result.ok ≡ true → result.totals ≡ totals_of (held s.now).core.active }
+    ensures marks_value { result.ok ≡ true → result.marks ≡ marks_of (held s.now).core.active }
 {
     let next = next_at(s);
     let n = actives_at(s) as usize;

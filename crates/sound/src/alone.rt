@@ -3,10 +3,10 @@
 
 ghost use Rattle.std.specs.Prelude.{◌≡◌};
 ghost use Rattle.law.specs.Entries.{kind_at, kind_of};
-ghost use Rattle.law.specs.DiskType.{diskTable};
+ghost use Rattle.law.specs.DiskType.{disk_table};
 ghost use Rattle.part.specs.Held.{HoldsDisk};
-ghost use Rattle.sound.specs.Tests.{Bounds, ifReading, valueSizeBy, aloneFits, activeBy, waitingBy};
-ghost use Rattle.sound.specs.Seen.{mostIn};
+ghost use Rattle.sound.specs.Tests.{Bounds, if_reading, value_size_by, alone_fits, active_by, waiting_by};
+ghost use Rattle.sound.specs.Seen.{most_in};
 
 use law::Claim;
 use law::limits::MOST_PRIORITY;
@@ -19,7 +19,7 @@ use rules::method::{
 // How large the fields of a claim may be on the disk of a part, rows by method.
 pub(crate) fn most_in(s: &[u8]) -> [u32; 35]
     requires { HoldsDisk s.now }
-    ensures { result ≡ mostIn s.now }
+    ensures { result ≡ most_in s.now }
 {
     let used = used_at(s);
     let promised = promised_at(s);
@@ -28,14 +28,14 @@ pub(crate) fn most_in(s: &[u8]) -> [u32; 35]
 
 // One number for a reading, another for a write.
 fn if_reading(m: u32, reading: u32, write: u32) -> u32
-    ensures { result ≡ ifReading (kind_at diskTable m) reading write }
+    ensures { result ≡ if_reading (kind_at disk_table m) reading write }
 {
     if is_reading(m) { reading } else { write }
 }
 
 // How large a value is: a state as its word, so that a negative one is far above any state.
 fn value_size(c: Claim) -> u32
-    ensures { result ≡ valueSizeBy (kind_of diskTable c) c.value }
+    ensures { result ≡ value_size_by (kind_of disk_table c) c.value }
 {
     if sets_state(c.method) {
         to_word(c.value)
@@ -48,7 +48,7 @@ fn value_size(c: Claim) -> u32
 // measuring and flag within its bound.
 fn alone(c: Claim, next: u32, most: &[u32]) -> bool
     requires { Bounds most.now }
-    ensures { result ≡ aloneFits most.now next c }
+    ensures { result ≡ alone_fits most.now next c }
 {
     if !is_known(c.method) {
         return false;
@@ -78,7 +78,7 @@ fn alone(c: Claim, next: u32, most: &[u32]) -> bool
 // An active claim: a reading's told is in range and its amount ≤ its limit; a write has neither.
 pub(crate) fn active_fits(c: Claim, next: u32, most: &[u32]) -> bool
     requires { Bounds most.now }
-    ensures { result ≡ activeBy most.now next c }
+    ensures { result ≡ active_by most.now next c }
 {
     if !alone(c, next, most) {
         return false;
@@ -93,7 +93,7 @@ pub(crate) fn active_fits(c: Claim, next: u32, most: &[u32]) -> bool
 // A waiting claim: told and amount are 0.
 pub(crate) fn waiting_fits(c: Claim, next: u32, most: &[u32]) -> bool
     requires { Bounds most.now }
-    ensures { result ≡ waitingBy most.now next c }
+    ensures { result ≡ waiting_by most.now next c }
 {
     if !alone(c, next, most) {
         return false;

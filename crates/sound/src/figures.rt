@@ -2,9 +2,9 @@
 
 ghost use Rattle.std.specs.Prelude.{◌≡◌};
 ghost use Rattle.law.specs.Types.{a0, a2};
-ghost use Rattle.rules.specs.Methods.{figuresOf};
+ghost use Rattle.rules.specs.Methods.{figures_of};
 ghost use Rattle.part.specs.Held.{held, HoldsDisk};
-ghost use Rattle.sound.specs.Tests.{figureFits, figuresFit, figuresOn};
+ghost use Rattle.sound.specs.Tests.{figure_fits, figures_fit, figures_on};
 
 use law::Attr;
 use law::limits::{LAST_TICKET, MOST_ERROR, MOST_STATE, MOST_VALUE};
@@ -17,7 +17,7 @@ const MOST_NEXT: u32 = LAST_TICKET + 1;
 // The figures of a part.
 pub(crate) fn figures_hold(s: &[u8]) -> bool
     requires { HoldsDisk s.now }
-    ensures { result ≡ figuresOn (held s.now) }
+    ensures { result ≡ figures_on (held s.now) }
 {
     figures_fit(
         used_at(s),
@@ -30,7 +30,7 @@ pub(crate) fn figures_hold(s: &[u8]) -> bool
 
 // The next ticket and the three figures.
 fn figures_fit(used: Attr, promised: Attr, state: Attr, clock: u32, next: u32) -> bool
-    ensures { result ≡ figuresFit (figuresOf used promised state) clock next }
+    ensures { result ≡ figures_fit (figures_of used promised state) clock next }
 {
     if next < 1 {
         return false;
@@ -49,7 +49,7 @@ fn figures_fit(used: Attr, promised: Attr, state: Attr, clock: u32, next: u32) -
 
 // A figure other than the state: value and limit in range, amount ≤ limit, stamp ≤ clock.
 fn figure_fits(a: Attr, clock: u32) -> bool
-    ensures { result ≡ figureFits a0 clock a }
+    ensures { result ≡ figure_fits a0 clock a }
 {
     if !within(a.value, MOST_VALUE) {
         return false;
@@ -65,7 +65,7 @@ fn figure_fits(a: Attr, clock: u32) -> bool
 
 // The state: a code 0 to 255 with limit 0.
 fn state_fits(a: Attr, clock: u32) -> bool
-    ensures { result ≡ figureFits a2 clock a }
+    ensures { result ≡ figure_fits a2 clock a }
 {
     if a.value < 0 {
         return false;

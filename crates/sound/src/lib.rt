@@ -9,7 +9,7 @@ mod waiting;
 
 ghost use Rattle.std.specs.Prelude.{◌≡◌};
 ghost use Rattle.part.specs.Held.{held, HoldsDisk};
-ghost use Rattle.sound.specs.Seen.{noneSeen, seenOf};
+ghost use Rattle.sound.specs.Seen.{none_seen, seen_of};
 
 use crate::active::actives_fit;
 use crate::alone::most_in;
@@ -28,7 +28,7 @@ pub struct Seen {
 // claims are read where they stand: a disk by value would be copied.
 pub fn is_sound(s: &[u8]) -> Seen
     requires { HoldsDisk s.now }
-    ensures { result ≡ seenOf (held s.now) }
+    ensures { result ≡ seen_of (held s.now) }
 {
     if !figures_hold(s) {
         return unsound();
@@ -48,7 +48,7 @@ pub fn is_sound(s: &[u8]) -> Seen
 
 // A test has failed: nothing is handed on.
 fn unsound() -> Seen
-    ensures { result ≡ noneSeen }
+    ensures { result ≡ none_seen }
 {
     Seen {
         ok: false,

@@ -1,12 +1,12 @@
 // The tickets of claims: their marks, by which most parts are found to have no two alike, and all of them two by two.
 
 ghost use Rattle.std.specs.Prelude.{◌≡◌, ◌+◌, ◌<◌, get_or};
-ghost use Rattle.law.specs.Sound.{claimsOn};
-ghost use Rattle.rules.specs.Rows.{noClaim};
+ghost use Rattle.law.specs.Sound.{claims_on};
+ghost use Rattle.rules.specs.Rows.{no_claim};
 ghost use Rattle.part.specs.Layout.{decode};
 ghost use Rattle.part.specs.Held.{held, HoldsDisk};
-ghost use Rattle.sound.specs.Tests.{ticketsDiffer};
-ghost use Rattle.sound.specs.Seen.{noMarks, withTicket};
+ghost use Rattle.sound.specs.Tests.{tickets_differ};
+ghost use Rattle.sound.specs.Seen.{no_marks, with_ticket};
 
 use law::Claim;
 use num::bits::bit_of;
@@ -21,14 +21,14 @@ pub struct Marks {
 
 // The marks of no tickets.
 pub(crate) fn no_marks() -> Marks
-    ensures { result ≡ noMarks }
+    ensures { result ≡ no_marks }
 {
     Marks { met: 0, again: 0 }
 }
 
 // The marks with the ticket of one claim more.
 pub(crate) fn with_ticket(m: Marks, c: Claim) -> Marks
-    ensures { result ≡ withTicket m c }
+    ensures { result ≡ with_ticket m c }
 {
     let bit = bit_of(c.ticket);
     Marks {
@@ -40,7 +40,7 @@ pub(crate) fn with_ticket(m: Marks, c: Claim) -> Marks
 // No two claims have the same ticket.
 pub(crate) fn apart(s: &[u8]) -> bool
     requires { HoldsDisk s.now }
-    ensures { result ≡ ticketsDiffer (held s.now) }
+    ensures { result ≡ tickets_differ (held s.now) }
 {
     let n = actives_at(s) as usize;
     let all = n + waitings_at(s) as usize;
@@ -65,7 +65,7 @@ fn claim_on(s: &[u8], n: usize, i: usize) -> Claim
     requires holds_disk { HoldsDisk s.now }
     requires n_value { n ≡ (decode s.now).actives }
     requires i_bound { i < n + (decode s.now).waitings }
-    ensures { result ≡ get_or (claimsOn (held s.now)) i noClaim }
+    ensures { result ≡ get_or (claims_on (held s.now)) i no_claim }
 {
     if i < n {
         return active_at(s, i);

@@ -2,11 +2,11 @@
 // left to test behind the active claims.
 
 ghost use Rattle.std.specs.Prelude.{true, ◌≡◌};
-ghost use Rattle.law.specs.Base.{everyPair, allTrue};
-ghost use Rattle.law.specs.Calls.{before as lawBefore};
+ghost use Rattle.law.specs.Base.{every_pair, all_true};
+ghost use Rattle.law.specs.Calls.{before as law_before};
 ghost use Rattle.part.specs.Held.{held, HoldsDisk};
-ghost use Rattle.sound.specs.Tests.{waitingsFit, restTests};
-ghost use Rattle.sound.specs.Seen.{marksOf, marksFrom, Ready};
+ghost use Rattle.sound.specs.Tests.{waitings_fit, rest_tests};
+ghost use Rattle.sound.specs.Seen.{marks_of, marks_from, Ready};
 
 use crate::alone::waiting_fits;
 use crate::tickets::{Marks, apart, with_ticket};
@@ -24,8 +24,8 @@ pub struct Waited {
 // two only where their last six bits coincide.
 pub(crate) fn waitings_hold(s: &[u8], most: &[u32], marks: Marks) -> bool
     requires ready { Ready s.now most.now }
-    requires marks_value { marks ≡ marksOf (held s.now).core.active }
-    ensures { result ≡ allTrue (restTests (held s.now)) }
+    requires marks_value { marks ≡ marks_of (held s.now).core.active }
+    ensures { result ≡ all_true (rest_tests (held s.now)) }
 {
     let w = waitings_fit(s, most, marks);
     if !w.ok {
@@ -44,8 +44,8 @@ pub(crate) fn waitings_hold(s: &[u8], most: &[u32], marks: Marks) -> bool
 // Each waiting claim fits by itself. The marks of the tickets are added to those handed in.
 fn waitings_fit(s: &[u8], most: &[u32], marks: Marks) -> Waited
     requires { Ready s.now most.now }
-    ensures ok_value { result.ok ≡ waitingsFit (held s.now) }
-    ensures marks_value { result.ok ≡ true → result.marks ≡ marksFrom marks (held s.now).waiting }
+    ensures ok_value { result.ok ≡ waitings_fit (held s.now) }
+    ensures marks_value { result.ok ≡ true → result.marks ≡ marks_from marks (held s.now).waiting }
 {
     let next = next_at(s);
     let n = waitings_at(s) as usize;
@@ -69,7 +69,7 @@ fn waitings_fit(s: &[u8], most: &[u32], marks: Marks) -> Waited
 // all behind it.
 fn in_order(s: &[u8]) -> bool
     requires { HoldsDisk s.now }
-    ensures { result ≡ everyPair lawBefore (held s.now).waiting }
+    ensures { result ≡ every_pair law_before (held s.now).waiting }
 {
     let n = waitings_at(s) as usize;
     let mut i: usize = 1;

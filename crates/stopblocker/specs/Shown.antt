@@ -5,33 +5,33 @@ use Rattle.std.proofs.Math.Path.{ap}
 use Rattle.std.proofs.Common.{◌∙◌, eq-eqb}
 use Rattle.num.specs.Word.{Bytes}
 use Rattle.law.specs.Base.{All}
-use Rattle.desk.specs.Board.{boardBytes}
-use Rattle.desk.specs.Step.{Said, own_of, grantsOf, effect_of, Stepped, written, step_of}
-use Rattle.stopblocker.specs.Lines.{lines_of, answerLine, plusLines}
-use Rattle.stopblocker.specs.Answering.{called, shownDisk, answerLines}
-use Rattle.stopblocker.specs.LineLaws.{lines-shown}
-use Rattle.stopblocker.specs.SaidLaws.{Granting, shows, told-fits}
+use Rattle.desk.specs.Board.{board_bytes}
+use Rattle.desk.specs.Step.{Said, own_of, grants_of, effect_of, Stepped, written, step_of}
+use Rattle.stopblocker.specs.Lines.{lines_of, answer_line, plus_lines}
+use Rattle.stopblocker.specs.Answering.{called, shown_disk, answer_lines}
+use Rattle.stopblocker.specs.LineLaws.{lines_shown}
+use Rattle.stopblocker.specs.SaidLaws.{Granting, shows, told_fits}
 
-module _ (b r : List ℕ) (whole : length b ≡ boardBytes) (bs : Bytes r) where
+module _ (b r : List ℕ) (whole : length b ≡ board_bytes) (bs : Bytes r) where
   -- What the call says, and the disk that is shown.
   abbrev said : Said
   said = (effect_of b r).said
 
   abbrev disk : ℕ
-  disk = shownDisk (called b r).code r
+  disk = shown_disk (called b r).code r
 
   called_is : called b r ≡ written (effect_of b r)
   unfolding step_of
-  called_is = rw (eq-eqb (length b) boardBytes whole)
+  called_is = rw (eq-eqb (length b) board_bytes whole)
 
   -- The lines are that of the call's own answer, and a "+" line for each grant.
-  pub call-lines : (number : ℕ) → answerLines b r number ≡ answerLine number disk (own_of said) ++ plusLines number disk (grantsOf said)
-  unfolding answerLines
-  call-lines number =
-      let s = shows said (told-fits b r bs) in
+  pub call_lines : (number : ℕ) → answer_lines b r number ≡ answer_line number disk (own_of said) ++ plus_lines number disk (grants_of said)
+  unfolding answer_lines
+  call_lines number =
+      let s = shows said (told_fits b r bs) in
       ap (λ (x : Stepped). lines_of number disk x.answer) called_is
-      ∙ lines-shown number disk (own_of said) (grantsOf said) s.own s.few s.fit
+      ∙ lines_shown number disk (own_of said) (grants_of said) s.own s.few s.fit
 
   -- There are at most 8 grants, each with code 0 and a ticket of at least 1.
-  pub call-grants : All Granting (grantsOf said) × (length (grantsOf said) ≤ 8)
-  call-grants = let s = shows said (told-fits b r bs) in (s.grant, s.few)
+  pub call_grants : All Granting (grants_of said) × (length (grants_of said) ≤ 8)
+  call_grants = let s = shows said (told_fits b r bs) in (s.grant, s.few)

@@ -19,6 +19,6 @@ unfoldable pub decimal : ℕ → List ℕ
 decimal n = digits (places n) n
 
 -- 45 is a minus.
-unfoldable pub signedText : ℤ → List ℕ
-signedText (pos n) = decimal n
-signedText (negsuc n) = 45 ∷ decimal (suc n)
+unfoldable pub signed_text : ℤ → List ℕ
+signed_text (pos n) = decimal n
+signed_text (negsuc n) = 45 ∷ decimal (suc n)

@@ -2,8 +2,8 @@
 
 ghost use Rattle.std.specs.Prelude.{◌≡◌, [], ◌∷◌, ◌++◌, ◌+◌, ◌≤◌, length};
 ghost use Rattle.num.specs.Runs.{splice};
-ghost use Rattle.stopblocker.specs.Text.{signedText};
-ghost use Rattle.stopblocker.specs.Lines.{next, figures, itemText, line_of, isGrant, grantLines, lines_of};
+ghost use Rattle.stopblocker.specs.Text.{signed_text};
+ghost use Rattle.stopblocker.specs.Lines.{next, figures, item_text, line_of, is_grant, grant_lines, lines_of};
 
 use crate::text::{put_byte, put_number, put_signed};
 use num::signed::signed_at;
@@ -24,9 +24,9 @@ pub(crate) fn put_lines(out: &mut [u8], at: usize, number: u64, disk: u8, answer
 // The lines of the pass's grants.
 fn put_grants(out: &mut [u8], at: usize, number: u64, disk: u8, answer: &[u8]) -> usize
     requires answer_len { length answer.now ≡ 144 }
-    requires answer_in_bounds { at + length (grantLines 8 number disk answer.now 1) ≤ length out.old }
-    ensures value { result ≡ at + length (grantLines 8 number disk answer.now 1) }
-    ensures out_after { out.new ≡ splice out.old at (grantLines 8 number disk answer.now 1) }
+    requires answer_in_bounds { at + length (grant_lines 8 number disk answer.now 1) ≤ length out.old }
+    ensures value { result ≡ at + length (grant_lines 8 number disk answer.now 1) }
+    ensures out_after { out.new ≡ splice out.old at (grant_lines 8 number disk answer.now 1) }
 {
     let mut to = at;
     let mut k: usize = 1;
@@ -40,7 +40,7 @@ fn put_grants(out: &mut [u8], at: usize, number: u64, disk: u8, answer: &[u8]) -
 // Whether item k of the answer buffer shows a grant of the pass: it has a ticket.
 fn is_grant(answer: &[u8], k: usize) -> bool
     requires { length answer.now ≡ 144 }
-    ensures { result ≡ isGrant answer.now k }
+    ensures { result ≡ is_grant answer.now k }
 {
     if 8 < k {
         return false;
@@ -76,9 +76,9 @@ fn put_line(out: &mut [u8], at: usize, number: u64, disk: u8, answer: &[u8], k: 
 fn put_item(out: &mut [u8], at: usize, answer: &[u8], k: usize) -> usize
     requires answer_len { length answer.now ≡ 144 }
     requires k_bound { k ≤ 8 }
-    requires k_in_bounds { at + length (itemText answer.now k) ≤ length out.old }
-    ensures value { result ≡ at + length (itemText answer.now k) }
-    ensures out_after { out.new ≡ splice out.old at (itemText answer.now k) }
+    requires k_in_bounds { at + length (item_text answer.now k) ≤ length out.old }
+    ensures value { result ≡ at + length (item_text answer.now k) }
+    ensures out_after { out.new ≡ splice out.old at (item_text answer.now k) }
 {
     let i = 16 * k;
     let code = word_at(answer, i);
@@ -112,9 +112,9 @@ fn put_next(out: &mut [u8], at: usize, n: u64) -> usize
 
 // A space and a signed figure.
 fn put_told(out: &mut [u8], at: usize, z: i32) -> usize
-    requires { at + length (32 ∷ signedText z) ≤ length out.old }
-    ensures value { result ≡ at + length (32 ∷ signedText z) }
-    ensures out_after { out.new ≡ splice out.old at (32 ∷ signedText z) }
+    requires { at + length (32 ∷ signed_text z) ≤ length out.old }
+    ensures value { result ≡ at + length (32 ∷ signed_text z) }
+    ensures out_after { out.new ≡ splice out.old at (32 ∷ signed_text z) }
 {
     let to = put_byte(out, at, b' ');
     put_signed(out, to, z)

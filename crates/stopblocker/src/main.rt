@@ -6,7 +6,7 @@ mod text;
 ghost use Rattle.std.specs.Prelude.{◌≡◌, [], ◌+◌, ◌-◌, ◌*◌, ◌^◌, ◌≤◌, ◌<◌, length, take};
 ghost use Rattle.num.specs.Runs.{splice};
 ghost use Rattle.records.specs.Pieces.{span, bytes_of};
-ghost use Rattle.stopblocker.specs.Answering.{called, shownDisk, answerLines, due_at, reached, answeredRun};
+ghost use Rattle.stopblocker.specs.Answering.{called, shown_disk, answer_lines, due_at, reached, answered_run};
 
 use crate::lines::put_lines;
 use answer::ANSWER_BYTES;
@@ -97,7 +97,7 @@ struct Answered {
 fn answer_run(board: &mut [u8], run: &[u8], from: u64, last: bool, lines: &mut [u8]) -> Answered
     requires run_in_bounds { 27 * length run.now + 648 ≤ length lines.old }
     requires run_bound { from + length run.now < 2 ^ 64 }
-    ensures at_after { reached board.new (take result.length lines.new) result.number result.at ≡ answeredRun board.old run.now from last }
+    ensures at_after { reached board.new (take result.length lines.new) result.number result.at ≡ answered_run board.old run.now from last }
     ensures length_in_bounds { result.length ≤ length lines.old }
     ensures at_in_bounds { result.at ≤ length run.now }
     ensures number_bound { result.number ≤ from + result.at }
@@ -130,8 +130,8 @@ fn due(run: &[u8], at: usize, last: bool) -> usize
 fn answer_piece(board: &mut [u8], r: &[u8], number: u64, lines: &mut [u8], at: usize) -> usize
     requires { at + 648 ≤ length lines.old }
     ensures board_after { board.new ≡ (called board.old r.now).bytes }
-    ensures value { result ≡ at + length (answerLines board.old r.now number) }
-    ensures lines_after { lines.new ≡ splice lines.old at (answerLines board.old r.now number) }
+    ensures value { result ≡ at + length (answer_lines board.old r.now number) }
+    ensures lines_after { lines.new ≡ splice lines.old at (answer_lines board.old r.now number) }
     ensures upper_bound { result ≤ at + 648 }
 {
     let mut answer = [0u8; ANSWER_BYTES];
@@ -142,7 +142,7 @@ fn answer_piece(board: &mut [u8], r: &[u8], number: u64, lines: &mut [u8], at: u
 
 // The disk to show: byte 3 of the record, or 0 if it was refused 10.
 fn disk_shown(r: &[u8], code: u32) -> u8
-    ensures { result ≡ shownDisk code r.now }
+    ensures { result ≡ shown_disk code r.now }
 {
     if code == 10 {
         return 0;

@@ -2,7 +2,7 @@
 
 ghost use Rattle.std.specs.Prelude.{◌≡◌, [], ◌∷◌, ◌+◌, ◌-◌, ◌≤◌, ◌<◌, length};
 ghost use Rattle.num.specs.Runs.{splice};
-ghost use Rattle.stopblocker.specs.Text.{digits, places, decimal, signedText};
+ghost use Rattle.stopblocker.specs.Text.{digits, places, decimal, signed_text};
 
 use num::signed::size;
 
@@ -28,9 +28,9 @@ pub(crate) fn put_number(out: &mut [u8], at: usize, n: u64) -> usize
 
 // A signed figure in decimal.
 pub(crate) fn put_signed(out: &mut [u8], at: usize, z: i32) -> usize
-    requires { at + length (signedText z) ≤ length out.old }
-    ensures value { result ≡ at + length (signedText z) }
-    ensures out_after { out.new ≡ splice out.old at (signedText z) }
+    requires { at + length (signed_text z) ≤ length out.old }
+    ensures value { result ≡ at + length (signed_text z) }
+    ensures out_after { out.new ≡ splice out.old at (signed_text z) }
 {
     let n = size(z) as u64;
     if z < 0 {

@@ -2,13 +2,13 @@
 use borrow.Author.Rules.{rules, sfits_of}
 use mir.Facts.{to_z-of_z}
 use mir.Syntax.{w32}
-use Rattle.answer.specs.Answers.{itemBytes}
+use Rattle.answer.specs.Answers.{item_bytes}
 use Rattle.answer.specs.AnswerLaws.{alone}
 use Rattle.answer.proofs.put_answer.Statement.{statement}
 use Rattle.answer.proofs.put_answer.Tie as tie
 
 returns : tie.Need-returns
-unfolding itemBytes
+unfolding item_bytes
 returns c =
     let p = c.before.before in
     let q = p.before.before.before.before in

@@ -1,12 +1,12 @@
 -- The item put is the grant's.
 use borrow.Author.Rules.{rules}
 use mir.Facts.{to_z-of_z}
-use Rattle.answer.specs.Answers.{itemBytes}
+use Rattle.answer.specs.Answers.{item_bytes}
 use Rattle.answer.proofs.put_grant.Statement.{statement}
 use Rattle.answer.proofs.put_grant.Tie as tie
 
 returns : tie.Need-returns
-unfolding itemBytes
+unfolding item_bytes
 returns c =
     let p = c.before.before in
     let s = p.before.before.before in

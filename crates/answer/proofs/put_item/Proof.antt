@@ -4,23 +4,23 @@ use mathlib.Core.List.{List, [], ◌∷◌, ◌++◌}
 use mathlib.Core.Path.{◌≡◌, refl}
 use borrow.Author.Rules.{rules}
 use mir.Facts.{to_z-of_z}
-use Rattle.num.specs.Word.{putWord}
+use Rattle.num.specs.Word.{put_word}
 use Rattle.num.specs.Runs.{le4, flat, splice}
-use Rattle.num.specs.RunLaws.{put-splice, splice-splice}
+use Rattle.num.specs.RunLaws.{put_splice, splice_splice}
 use Rattle.num.specs.Signed.{word_of}
 use Rattle.answer.proofs.put_item.Statement.{statement}
 use Rattle.answer.proofs.put_item.Tie as tie
 
 -- Four words, one right behind the other, are one run.
-four-words : (l : List ℕ) (at x y z w : ℕ) →
-    putWord (putWord (putWord (putWord l at x) (at + 4) y) (at + 8) z) (at + 12) w
+four_words : (l : List ℕ) (at x y z w : ℕ) →
+    put_word (put_word (put_word (put_word l at x) (at + 4) y) (at + 8) z) (at + 12) w
     ≡ splice l at (flat (x ∷ y ∷ z ∷ w ∷ []))
 unfolding le4 flat
-four-words l at x y z w =
-    simp put-splice (rw (
-      splice-splice l at (at + 4) (le4 x) (le4 y) refl,
-      splice-splice l at (at + 8) (le4 x ++ le4 y) (le4 z) refl,
-      splice-splice l at (at + 12) (le4 x ++ le4 y ++ le4 z) (le4 w) refl,
+four_words l at x y z w =
+    simp put_splice (rw (
+      splice_splice l at (at + 4) (le4 x) (le4 y) refl,
+      splice_splice l at (at + 8) (le4 x ++ le4 y) (le4 z) refl,
+      splice_splice l at (at + 12) (le4 x ++ le4 y ++ le4 z) (le4 w) refl,
     ))
 
 returns : tie.Need-returns
@@ -39,7 +39,7 @@ returns c =
       p1.put_word.ensures,
       w.to_word.ensures,
       to_z-of_z s.ranges.told,
-    ) (four-words a.out.now a.at a.code a.ticket (word_of a.told) a.amount)
+    ) (four_words a.out.now a.at a.code a.ticket (word_of a.told) a.amount)
 
 pub put-item-spec : {M : Type 1} → statement M
 put-item-spec =

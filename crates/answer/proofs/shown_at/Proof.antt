@@ -2,12 +2,12 @@
 use borrow.Author.Rules.{rules, sfits_of}
 use borrow.Author.Tests.{eq-eqb, ne_eqb, le-leb, lt-leb}
 use mir.Facts.{to_z-of_z}
-use Rattle.answer.specs.Answers.{shownAt}
+use Rattle.answer.specs.Answers.{shown_at}
 use Rattle.answer.proofs.shown_at.Statement.{statement}
 use Rattle.answer.proofs.shown_at.Tie as tie
 
 returns : tie.Need-returns
-unfolding shownAt
+unfolding shown_at
 returns c =
     let told = c.before in
     let ticket = told.before in
@@ -24,11 +24,11 @@ returns c =
     )
 
 returns-2 : tie.Need-returns-2
-unfolding shownAt
+unfolding shown_at
 returns-2 c = rw (eq-eqb _ _ c.before.if1.true, lt-leb _ _ c.if2.false)
 
 returns-3 : tie.Need-returns-3
-unfolding shownAt
+unfolding shown_at
 returns-3 c = rw (ne_eqb _ _ c.if1.false)
 
 pub shown-at-spec : {M : Type 1} → statement M

@@ -1,4 +1,4 @@
--- Each arm is its case of `toldOf`; a figure in 32 bits is back after its word.
+-- Each arm is its case of `told_of`; a figure in 32 bits is back after its word.
 use borrow.Author.Rules.{rules}
 use Rattle.answer.proofs.told.Statement.{statement}
 use Rattle.answer.proofs.told.Tie as tie

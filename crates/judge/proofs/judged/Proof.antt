@@ -16,19 +16,19 @@ use Rattle.law.specs.declared.Attr.{Attr}
 use Rattle.law.specs.declared.Claim.{Claim}
 use Rattle.law.specs.Types.{Core, Disk as LawDisk}
 use Rattle.law.specs.Entries.{kind_of}
-use Rattle.law.specs.Granting.{toldBy}
-use Rattle.law.specs.DiskType.{diskTable}
+use Rattle.law.specs.Granting.{told_by}
+use Rattle.law.specs.DiskType.{disk_table}
 use Rattle.answer.specs.declared.Answer.TheVariants as A
 use Rattle.rules.specs.declared.disk.Disk.{Disk}
 use Rattle.rules.specs.declared.fields.Tested.{Tested}
 use Rattle.rules.specs.declared.fields.Tested.TheVariants as T
-use Rattle.rules.specs.RowLaws.{row-length}
-use Rattle.rules.specs.Methods.{figuresOf}
-use Rattle.rules.specs.Disks.{figuresIn, diskOf, Good}
-use Rattle.rules.specs.Answers.{NewOn, firstRefusal, firstRules, coreAt, TakesGrant}
-use Rattle.rules.proofs.CallLaws.{passed_none, answer-refused, answer-granted, answer-full, answer-waits, takes-grant}
+use Rattle.rules.specs.RowLaws.{row_length}
+use Rattle.rules.specs.Methods.{figures_of}
+use Rattle.rules.specs.Disks.{figures_in, disk_of, Good}
+use Rattle.rules.specs.Answers.{NewOn, first_refusal, first_rules, core_at, TakesGrant}
+use Rattle.rules.proofs.CallLaws.{passed_none, answer_refused, answer_granted, answer_full, answer_waits, takes_grant}
 use Rattle.part.specs.Layout.{decode}
-use Rattle.part.specs.PartLaws.{disk-good}
+use Rattle.part.specs.PartLaws.{disk_good}
 use Rattle.judge.specs.Decisions.{DecidedIs}
 use Rattle.judge.proofs.judged.Statement.{statement}
 use Rattle.judge.proofs.judged.Tie as tie
@@ -36,12 +36,12 @@ use Rattle.judge.proofs.judged.Tie as tie
 -- ---- by what has been read, and by the disk
 
 module _ (d : Disk) (c : Claim) {u p t : Attr} (hu : u ≡ d.used) (hp : p ≡ d.promised) (ht : t ≡ d.state) where
-  tests_by : (now : ℕ) {x : Tested} {w : ℕ} → w ≡ d.clock → x ≡ firstRefusal (firstRules (figuresOf u p t) w now c) →
-      x ≡ firstRefusal (firstRules (figuresIn d) d.clock now c)
+  tests_by : (now : ℕ) {x : Tested} {w : ℕ} → w ≡ d.clock → x ≡ first_refusal (first_rules (figures_of u p t) w now c) →
+      x ≡ first_refusal (first_rules (figures_in d) d.clock now c)
   tests_by now hw h = rw (hu, hp, ht, hw) at h
 
-  told-by : {z : ℤ} → z ≡ toldBy (figuresOf u p t) (kind_of diskTable c) → z ≡ toldBy (figuresIn d) (kind_of diskTable c)
-  told-by h = rw (hu, hp, ht) at h
+  told_by_lem : {z : ℤ} → z ≡ told_by (figures_of u p t) (kind_of disk_table c) → z ≡ told_by (figures_in d) (kind_of disk_table c)
+  told_by_lem h = rw (hu, hp, ht) at h
 
 decided-by : (ws : List Claim) {ok : Bool} {sum n m : ℕ} {s : Core} {c : Claim} → n ≡ m → DecidedIs ok sum s (take n ws) c →
     DecidedIs ok sum s (take m ws) c
@@ -54,7 +54,7 @@ module _ (s : tie.Start) where
   disk = decode s.args.s.now
 
   abbrev law : LawDisk
-  law = diskOf disk
+  law = disk_of disk
 
   abbrev asks : Claim
   asks = s.args.c
@@ -63,7 +63,7 @@ module _ (s : tie.Start) where
   second = s.args.second
 
   good : Good disk
-  good = disk-good s.pre.0.disk
+  good = disk_good s.pre.0.disk
 
   new : NewOn law asks
   new = s.pre.1.0
@@ -83,7 +83,7 @@ abbrev start : tie.After-checked → tie.Start
 start k = (at-used k).before.before
 
 tests : (k : tie.After-checked) →
-    k.checked.result ≡ firstRefusal (firstRules (figuresIn (disk (start k))) (disk (start k)).clock (second (start k)) (asks (start k)))
+    k.checked.result ≡ first_refusal (first_rules (figures_in (disk (start k))) (disk (start k)).clock (second (start k)) (asks (start k)))
 tests k =
     tests_by (disk (start k)) (asks (start k)) (at-used k).used-at.ensures (at-promised k).promised-at.ensures (at-state k).state-at.ensures (second (start k))
     k.before.clock-at.ensures k.checked.ensures
@@ -98,14 +98,14 @@ begun k = start (checked k.before)
 
 -- No test refuses.
 passed : (k : tie.After-decide) →
-    T.Passed ≡ firstRefusal (firstRules (figuresIn (disk (begun k))) (disk (begun k)).clock (second (begun k)) (asks (begun k)))
+    T.Passed ≡ first_refusal (first_rules (figures_in (disk (begun k))) (disk (begun k)).clock (second (begun k)) (asks (begun k)))
 passed k = sym k.before.before.enum_told.given.1 ∙ tests (checked k.before)
 
 waitings-is : (k : tie.After-decide) → k.before.waitings-at.result ≡ (disk (begun k)).waitings
 waitings-is k = k.before.waitings-at.ensures
 
 decided : (k : tie.After-decide) →
-    DecidedIs k.decide.result.ok k.decide.result.total (coreAt (disk (begun k)) (second (begun k)))
+    DecidedIs k.decide.result.ok k.decide.result.total (core_at (disk (begun k)) (second (begun k)))
     (take (disk (begun k)).waitings (disk (begun k)).waiting) (asks (begun k))
 decided k = decided-by (disk (begun k)).waiting (waitings-is k) k.decide.ensures
 
@@ -113,26 +113,26 @@ decided k = decided-by (disk (begun k)).waiting (waitings-is k) k.decide.ensures
 takes : (k : tie.After-decide) → k.decide.result.ok ≡ true → TakesGrant (disk (begun k)) (second (begun k)) (asks (begun k)) k.decide.result.total
 takes k g =
     let s = begun k in
-    takes-grant (disk s) (second s) (asks s) (passed_none (law s) (second s) (asks s) (new s) (passed k)) k.decide.result.total (good s) s.pre.0.sound
+    takes_grant (disk s) (second s) (asks s) (passed_none (law s) (second s) (asks s) (new s) (passed k)) k.decide.result.total (good s) s.pre.0.sound
     (sym (decided k).says ∙ g) ((decided k).counts g)
 
 -- What is told is the law's.
 told_is : (t : tie.After-told) →
-    t.told.result ≡ toldBy (figuresIn (disk (begun t.before.before))) (kind_of diskTable (asks (begun t.before.before)))
+    t.told.result ≡ told_by (figures_in (disk (begun t.before.before))) (kind_of disk_table (asks (begun t.before.before)))
 told_is t =
     let k = checked t.before.before.before in
-    told-by (disk (start k)) (asks (start k)) (at-used k).used-at.ensures (at-promised k).promised-at.ensures (at-state k).state-at.ensures t.told.ensures.0
+    told_by_lem (disk (start k)) (asks (start k)) (at-used k).used-at.ensures (at-promised k).promised-at.ensures (at-state k).state-at.ensures t.told.ensures.0
 
 -- So many claims wait.
 line : (k : tie.After-decide) → length (take (disk (begun k)).waitings (disk (begun k)).waiting) ≡ k.before.waitings-at.result
-line k = row-length (good (begun k)).waiting ∙ sym (waitings-is k)
+line k = row_length (good (begun k)).waiting ∙ sym (waitings-is k)
 
 -- ---- the needs
 
 returns : tie.Need-returns
 returns c =
     let k = c.before.before.before in
-    answer-refused (law (start k)) (second (start k)) (asks (start k)) (new (start k)) (sym c.before.tested.given.1 ∙ tests k)
+    answer_refused (law (start k)) (second (start k)) (asks (start k)) (new (start k)) (sym c.before.tested.given.1 ∙ tests k)
 
 decide-requires : tie.Need-decide-requires
 decide-requires c κs =
@@ -153,23 +153,23 @@ returns-2 c =
     let k = t.before.before in
     let s = begun k in
     let g = takes k t.before.if1.true in
-    let z : c.before.narrow.result ≡ toldBy (figuresIn (disk s)) (kind_of diskTable (asks s)) =
+    let z : c.before.narrow.result ≡ told_by (figures_in (disk s)) (kind_of disk_table (asks s)) =
     c.before.narrow.ensures ∙ to_z-of_z (size_fits w64 t.told.result (omega (arith, t.told.ensures.1))) ∙ told_is t in
     let y = to_z-of_z (size_fits w32 c.before.narrow.result (omega (arith, ap size z, g.told))) ∙ z in
     (λ i. A.Granted (asks s).ticket (y i) (g.counts i))
-    ∙ answer-granted (law s) (second s) (asks s) (new s) (passed k) (sym (decided k).says ∙ t.before.if1.true)
+    ∙ answer_granted (law s) (second s) (asks s) (new s) (passed k) (sym (decided k).says ∙ t.before.if1.true)
 
 returns-3 : tie.Need-returns-3
 returns-3 c =
     let k = c.before.before in
     let s = begun k in
-    answer-full (law s) (second s) (asks s) (new s) (passed k) (sym (decided k).says ∙ c.before.if1.false) (omega (arith, c.if2.true, line k))
+    answer_full (law s) (second s) (asks s) (new s) (passed k) (sym (decided k).says ∙ c.before.if1.false) (omega (arith, c.if2.true, line k))
 
 returns-4 : tie.Need-returns-4
 returns-4 c =
     let k = c.before.before in
     let s = begun k in
-    answer-waits (law s) (second s) (asks s) (new s) (passed k) (sym (decided k).says ∙ c.before.if1.false) (omega (arith, c.if2.false, line k))
+    answer_waits (law s) (second s) (asks s) (new s) (passed k) (sym (decided k).says ∙ c.before.if1.false) (omega (arith, c.if2.false, line k))
 
 pub judged-spec : {M : Type 1} → statement M
 judged-spec =

@@ -6,14 +6,14 @@ use borrow.Author.Rules.{rules}
 use mir.Facts.{to_z-of_z}
 use Rattle.num.specs.Runs.{splice}
 use Rattle.law.specs.Entries.{kind_at, kind_of}
-use Rattle.law.specs.Granting.{toldBy, grantItem}
-use Rattle.law.specs.DiskType.{diskTable}
-use Rattle.rules.specs.Methods.{figuresOf}
+use Rattle.law.specs.Granting.{told_by, grant_item}
+use Rattle.law.specs.DiskType.{disk_table}
+use Rattle.rules.specs.Methods.{figures_of}
 use Rattle.rules.specs.declared.disk.Disk.{Disk}
-use Rattle.rules.specs.Disks.{figuresIn}
+use Rattle.rules.specs.Disks.{figures_in}
 use Rattle.part.specs.Layout.{decode}
 use Rattle.answer.specs.declared.Answer.TheVariants.{Granted}
-use Rattle.answer.specs.Answers.{itemBytes}
+use Rattle.answer.specs.Answers.{item_bytes}
 use Rattle.pass.proofs.give.Statement.{statement}
 use Rattle.pass.proofs.give.Tie as tie
 
@@ -30,12 +30,12 @@ abbrev disk : tie.Start → Disk
 disk k = decode k.args.s.now
 
 -- What it is told, and that in 32 bits.
-told_is : (t : tie.After-told) → let k = at_told t in t.told.result ≡ toldBy (figuresIn (disk k)) (kind_of diskTable k.args.c)
+told_is : (t : tie.After-told) → let k = at_told t in t.told.result ≡ told_by (figures_in (disk k)) (kind_of disk_table k.args.c)
 told_is t =
     t.told.ensures.0
-    ∙ (λ j. toldBy (figuresOf (t.before.before.before.before.before.used-at.ensures j) (t.before.before.before.promised-at.ensures j) (t.before.state-at.ensures j)) (kind_at diskTable (at_told t).args.c.method))
+    ∙ (λ j. told_by (figures_of (t.before.before.before.before.before.used-at.ensures j) (t.before.before.before.promised-at.ensures j) (t.before.state-at.ensures j)) (kind_at disk_table (at_told t).args.c.method))
 
-sum_is : (n : tie.After-narrow) → let k = at-narrow n in n.narrow.result ≡ toldBy (figuresIn (disk k)) (kind_of diskTable k.args.c)
+sum_is : (n : tie.After-narrow) → let k = at-narrow n in n.narrow.result ≡ told_by (figures_in (disk k)) (kind_of disk_table k.args.c)
 sum_is n = n.narrow.ensures ∙ to_z-of_z (record { sfits = n.before.told.type-inv }) ∙ told_is n.before
 
 promised-at-requires : tie.Need-promised-at-requires
@@ -59,7 +59,7 @@ put-grant-requires c κs =
     (k.requires.1.1.1.1.0, k.requires.1.1.1.1.1)
 
 returns : tie.Need-returns
-unfolding grantItem
+unfolding grant_item
 returns c =
     let n = c.before.before.before.before.before.before.before.before in
     let k = at-narrow n in
@@ -70,7 +70,7 @@ returns c =
       (
         g.1,
         c.before.before.put-grant.ensures
-            ∙ (λ j. splice a.answer.now (16 + 16 * a.n) (itemBytes (Granted a.c.ticket (z j) (k.pre.1.1.1.0 j)))),
+            ∙ (λ j. splice a.answer.now (16 + 16 * a.n) (item_bytes (Granted a.c.ticket (z j) (k.pre.1.1.1.0 j)))),
       ),
     )
 

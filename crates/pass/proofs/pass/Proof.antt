@@ -6,12 +6,12 @@ use native.Mathlib.Omega.{arith}
 use borrow.Author.Rules.{rules}
 use lib.ListN.{length}
 use Rattle.rules.specs.declared.disk.Disk.{Disk}
-use Rattle.rules.specs.Totals.{totalsOf}
+use Rattle.rules.specs.Totals.{totals_of}
 use Rattle.part.specs.Layout.{decode}
-use Rattle.part.specs.Held.{partFor, HoldsDisk}
-use Rattle.part.specs.PartLaws.{disk-good, sound-part, part_held}
-use Rattle.judge.specs.Decisions.{activesIn}
-use Rattle.pass.proofs.PassLaws.{Run, kept, turn-fits, turn-keeps, run-start, run-turn, run-disk, run-behind, idle-disk, idle-behind}
+use Rattle.part.specs.Held.{part_for, HoldsDisk}
+use Rattle.part.specs.PartLaws.{disk_good, sound_part_lem, part_held}
+use Rattle.judge.specs.Decisions.{actives_in}
+use Rattle.pass.proofs.PassLaws.{Run, kept, turn_fits, turn_keeps, run_start, run_turn, run_disk, run_behind, idle_disk, idle_behind}
 use Rattle.pass.proofs.pass.Statement.{statement}
 use Rattle.pass.proofs.pass.Tie as tie
 
@@ -20,7 +20,7 @@ Inv s₀ answer₀ n t₀ i₀ k₀ s answer t i k =
     (length answer ≡ 144)
     × HoldsDisk s
     × Run (decode s₀) (decode s) answer₀ answer i k
-    × (t ≡ totalsOf (activesIn (decode s)))
+    × (t ≡ totals_of (actives_in (decode s)))
 
 abbrev μ : tie.decreases-loop
 μ s₀ answer₀ n t₀ i₀ k₀ s answer t i k = n - i
@@ -57,9 +57,9 @@ returns c =
     let s = k.args.s.now in
     let h = k.pre.0 in
     let none : (disk k).waitings ≡ 0 = sym (count w) ∙ c.if1.true in (
-      sym (part_held s (λ i. (w.before.before.before.slice-known.given i).fits) h.disk.long (sound-part s h.disk.whole h.sound))
-          ∙ ap partFor (idle-disk (disk k) none),
-      idle-behind (disk k) none k.args.answer.now,
+      sym (part_held s (λ i. (w.before.before.before.slice-known.given i).fits) h.disk.long (sound_part_lem s h.disk.whole h.sound))
+          ∙ ap part_for (idle_disk (disk k) none),
+      idle_behind (disk k) none k.args.answer.now,
     )
 
 -- ---- the walk
@@ -68,7 +68,7 @@ loop-holds : tie.Need-loop-init Inv μ
 loop-holds c =
     let k = at_count (counted c) in
     let h = k.pre.0 in
-    (k.pre.1.0, h.disk, run-start (disk k) k.args.answer.now (disk-good h.disk) h.sound, c.totals-at.ensures)
+    (k.pre.1.0, h.disk, run_start (disk k) k.args.answer.now (disk_good h.disk) h.sound, c.totals-at.ensures)
 
 turn-requires : tie.Need-turn-requires Inv μ
 turn-requires c κs =
@@ -76,7 +76,7 @@ turn-requires c κs =
     let l = t.before.loop.invariant in
     let g = l.2.going in
     let h = more t in
-    (l.1, (turn-fits g h, (omega (arith, h, g.waits), (kept g, (l.0, l.3)))))
+    (l.1, (turn_fits g h, (omega (arith, h, g.waits), (kept g, (l.0, l.3)))))
 
 after-turn-requires : tie.Need-after-turn-requires Inv μ
 after-turn-requires c κs =
@@ -84,13 +84,13 @@ after-turn-requires c κs =
     let t = v.before.before.before in
     let l = t.before.loop.invariant in
     let e = v.turn in
-    (e.ensures.0, (λ q. l.3 ∙ ap totalsOf (sym (turn-keeps l.2 (more t) (decode e.new.0) e.new.1.0 e.result e.ensures.1 q))))
+    (e.ensures.0, (λ q. l.3 ∙ ap totals_of (sym (turn_keeps l.2 (more t) (decode e.new.0) e.new.1.0 e.result e.ensures.1 q))))
 
 loop-again : tie.Need-loop-preserved Inv μ
 loop-again c =
     let v = c.before.before.before.before.before.before in
     let t = v.before.before.before in
-    (search rules, v.turn.ensures.0, run-turn t.before.loop.invariant.2 (more t) v.turn.ensures.1, c.after_turn_lem.ensures)
+    (search rules, v.turn.ensures.0, run_turn t.before.loop.invariant.2 (more t) v.turn.ensures.1, c.after_turn_lem.ensures)
 
 close-requires : tie.Need-close-requires Inv μ
 close-requires c κs =
@@ -106,7 +106,7 @@ returns-2 c =
     let w = e.before in
     let l = w.loop.invariant in
     let h = subst (λ (m : ℕ). m ≤ w.loop.i) (count (counted w.before)) e.loop-test.false in
-    (c.before.before.close.ensures ∙ ap partFor (run-disk l.2 h), run-behind l.2 h)
+    (c.before.before.close.ensures ∙ ap part_for (run_disk l.2 h), run_behind l.2 h)
 
 pub pass_spec : {M : Type 1} → statement M
 pass_spec =

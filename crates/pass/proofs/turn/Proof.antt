@@ -10,23 +10,23 @@ use lib.Dec.{leb}
 use lib.ListN.{length}
 use Rattle.num.specs.Runs.{splice}
 use Rattle.law.specs.declared.Claim.{Claim}
-use Rattle.law.specs.Types.{mostError}
-use Rattle.law.specs.Granting.{total, granted, grantItem}
-use Rattle.law.specs.GrantLaws.{MayGrant, grant-says}
-use Rattle.law.specs.DiskType.{diskTable}
-use Rattle.rules.specs.RowLaws.{row-length}
+use Rattle.law.specs.Types.{most_error}
+use Rattle.law.specs.Granting.{total, granted, grant_item}
+use Rattle.law.specs.GrantLaws.{MayGrant, grant_says}
+use Rattle.law.specs.DiskType.{disk_table}
+use Rattle.rules.specs.RowLaws.{row_length}
 use Rattle.rules.specs.Pairs.{core_of}
-use Rattle.rules.specs.Totals.{keepOut}
-use Rattle.rules.proofs.TotalsLaws.{one-never}
-use Rattle.judge.specs.Decisions.{activesIn, DecidedIs}
-use Rattle.judge.proofs.DecideLaws.{full-waits, never-waits}
+use Rattle.rules.specs.Totals.{keep_out}
+use Rattle.rules.proofs.TotalsLaws.{one_never}
+use Rattle.judge.specs.Decisions.{actives_in, DecidedIs}
+use Rattle.judge.proofs.DecideLaws.{full_waits, never_waits}
 use Rattle.rules.specs.declared.disk.Disk.{Disk}
-use Rattle.rules.specs.Disks.{figuresIn, coreIn, diskOf, Good, DiskIs, grantOf, ToldFits}
+use Rattle.rules.specs.Disks.{figures_in, core_in, disk_of, Good, DiskIs, grant_of, ToldFits}
 use Rattle.part.specs.Layout.{decode}
-use Rattle.part.specs.PartLaws.{disk-good}
-use Rattle.answer.specs.Answers.{itemBytes}
-use Rattle.pass.specs.Turns.{grantAnswer, tried, front, TurnBy}
-use Rattle.pass.proofs.PassLaws.{told-fits, total-most}
+use Rattle.part.specs.PartLaws.{disk_good}
+use Rattle.answer.specs.Answers.{item_bytes}
+use Rattle.pass.specs.Turns.{grant_answer, tried, front, TurnBy}
+use Rattle.pass.proofs.PassLaws.{told_fits, total_most}
 use Rattle.pass.proofs.turn.Statement.{statement}
 use Rattle.pass.proofs.turn.Tie as tie
 
@@ -55,7 +55,7 @@ abbrev disk : tie.Start → Disk
 disk k = decode k.args.s.now
 
 good : (k : tie.Start) → Good (disk k)
-good k = disk-good k.requires.0
+good k = disk_good k.requires.0
 
 -- The place is one of the eight.
 place : (k : tie.Start) → k.args.i < 8
@@ -63,12 +63,12 @@ place k = omega (arith, k.requires.1.1.0, (good k).waiting.few)
 
 -- A decision by what has been read is one by the disk.
 by_read : (d : Disk) {ok : Bool} {sum now : ℕ} {ahead : List Claim} {c e : Claim} → now ≡ d.clock → c ≡ e →
-    DecidedIs ok sum (core_of (figuresIn d) now (activesIn d)) ahead c → DecidedIs ok sum (coreIn d) ahead e
+    DecidedIs ok sum (core_of (figures_in d) now (actives_in d)) ahead c → DecidedIs ok sum (core_in d) ahead e
 by_read d n h v = rw (n, h) at v
 
 -- The decision on the claim that is tried.
 verdict : (v : tie.After-decide) → let k = at-decide v in
-    DecidedIs v.decide.result.ok v.decide.result.total (coreIn (disk k)) (front (disk k) k.args.k) (tried (disk k) k.args.i)
+    DecidedIs v.decide.result.ok v.decide.result.total (core_in (disk k)) (front (disk k) k.args.k) (tried (disk k) k.args.i)
 verdict v = by_read (disk (at-decide v)) v.before.clock-at.ensures (claim v).waiting-at2.ensures v.decide.ensures
 
 -- It is granted.
@@ -82,17 +82,17 @@ module _ (b : tie.Then2) where
   abbrev c : Claim
   c = tried d start.args.i
 
-  pub yes : granted diskTable (coreIn d) (front d start.args.k) c ≡ true
+  pub yes : granted disk_table (core_in d) (front d start.args.k) c ≡ true
   yes = sym (verdict b.before).says ∙ b.if2.taken
 
-  pub may : MayGrant diskTable (coreIn d) c
-  may = grant-says diskTable (coreIn d) (front d start.args.k) c yes
+  pub may : MayGrant disk_table (core_in d) c
+  may = grant_says disk_table (core_in d) (front d start.args.k) c yes
 
-  pub sum : b.before.decide.result.total ≡ total diskTable (coreIn d) c
+  pub sum : b.before.decide.result.total ≡ total disk_table (core_in d) c
   sum = (verdict b.before).counts b.if2.taken
 
-  pub few : b.before.decide.result.total ≤ mostError
-  few = omega (arith, sum, total-most d start.args.i start.pre.1.0 may)
+  pub few : b.before.decide.result.total ≤ most_error
+  few = omega (arith, sum, total_most d start.args.i start.pre.1.0 may)
 
 waiting-at-requires : tie.Need-waiting-at-requires
 waiting-at-requires c κs = (search rules, place c.before.before.before)
@@ -103,20 +103,20 @@ keep-requires c κs = let k = at-either c.before.before in (k.pre.0, (k.pre.1.1.
 -- With eight active, or one whose entry is N, it is not granted.
 stuck : (t : tie.Then1) →
     let k = at-either t.before in
-    granted diskTable (coreIn (disk k)) (front (disk k) k.args.k) (tried (disk k) k.args.i) ≡ false
+    granted disk_table (core_in (disk k)) (front (disk k) k.args.k) (tried (disk k) k.args.i) ≡ false
 stuck t =
     let e = t.before in
     let k = at-either e in
     let d = disk k in
     let c = tried d k.args.i in
     let n = e.before.before.actives-at in
-    let count : n.result ≡ length (activesIn d) = n.ensures ∙ sym (row-length (good k).active) in
+    let count : n.result ≡ length (actives_in d) = n.ensures ∙ sym (row_length (good k).active) in
     sym
     (either_way (leb 8 n.result) e.before.keep_out.result (sym e.either.ensures ∙ t.if1.true)
-    (λ full. full-waits (figuresIn d) d.clock (activesIn d) (front d k.args.k) c (omega (arith, count, leb-true 8 n.result full)))
+    (λ full. full_waits (figures_in d) d.clock (actives_in d) (front d k.args.k) c (omega (arith, count, leb-true 8 n.result full)))
     (λ met.
-    never-waits (figuresIn d) d.clock (activesIn d) (front d k.args.k) c
-    (one-never c (activesIn d) (sym (e.before.keep_out.ensures ∙ (λ j. keepOut (k.pre.1.1.1.1.1 j) ((read-1 e).waiting-at.ensures j).method)) ∙ met))))
+    never_waits (figures_in d) d.clock (actives_in d) (front d k.args.k) c
+    (one_never c (actives_in d) (sym (e.before.keep_out.ensures ∙ (λ j. keep_out (k.pre.1.1.1.1.1 j) ((read-1 e).waiting-at.ensures j).method)) ∙ met))))
   where
     either_way : {X : Type 0} (a b : Bool) → (a || b) ≡ true → (a ≡ true → X) → (b ≡ true → X) → X
     either_way true b h f g = f refl
@@ -154,10 +154,10 @@ give-requires c κs =
     let e = sym (claim b.before).waiting-at2.ensures in (
       k.pre.0,
       (
-        subst (MayGrant diskTable (coreIn (disk k))) e (may b),
+        subst (MayGrant disk_table (core_in (disk k))) e (may b),
         (
-          subst (ToldFits (disk k)) e (told-fits (disk k) k.args.i k.pre.1.0),
-          (sum b ∙ ap (total diskTable (coreIn (disk k))) e, (k.pre.1.1.1.1.0, omega (arith, place k))),
+          subst (ToldFits (disk k)) e (told_fits (disk k) k.args.i k.pre.1.0),
+          (sum b ∙ ap (total disk_table (core_in (disk k))) e, (k.pre.1.1.1.1.0, omega (arith, place k))),
         ),
       ),
     )
@@ -172,9 +172,9 @@ returns-2 c =
       g.ensures.0,
       subst (λ (v : Bool). TurnBy v (disk k) (decode g.new.0) a.answer.now g.new.1.0 a.i a.k a.k) (sym (yes b)) (
         refl,
-        subst (λ (x : Claim). DiskIs (decode g.new.0) (grantOf (diskOf (disk k)) x)) e g.ensures.1.0,
+        subst (λ (x : Claim). DiskIs (decode g.new.0) (grant_of (disk_of (disk k)) x)) e g.ensures.1.0,
         g.ensures.1.1
-            ∙ ap (λ (x : Claim). splice a.answer.now (16 + 16 * (a.i - a.k)) (itemBytes (grantAnswer (grantItem diskTable (coreIn (disk k)) x)))) e,
+            ∙ ap (λ (x : Claim). splice a.answer.now (16 + 16 * (a.i - a.k)) (item_bytes (grant_answer (grant_item disk_table (core_in (disk k)) x)))) e,
       ),
     )
 

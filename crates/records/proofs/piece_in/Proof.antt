@@ -38,7 +38,7 @@ use denote.Triple.Table.{entered, cited}
 use denote.Triple.Walked.{says, Stays, stay_none, stay_none_slice, walk_of, Goes-none, Goes-none_slice, Walks, ends_at, walked, walk_Meets}
 use denote.Exit.{yes}
 use denote.Triple.Clauses.{ensured, lasts}
-use Rattle.records.specs.Pieces.{piece_at, readerAt}
+use Rattle.records.specs.Pieces.{piece_at, reader_at}
 use Rattle.records.specs.declared.Reader.{Reader}
 use Rattle.records.specs.declared.Piece.{Piece}
 use Rattle.records.specs.contracts.Reader as T
@@ -113,8 +113,8 @@ module _ {M : Type 1} {𝓤 : Ura M} (𝓛 : Logic 𝓤) (mem : Memory → SProp
       move ! (1 ∷ []) $ fsplit ! $ move ! (1 ∷ []) $ drop ! $ use1 𝓛 (‵ Own ⊛ ‵ Own) ((shr_slice_copy 𝓛 (named 0) κ u8).twice s (v ∷ [])) $ split ! $
       nothing ! $ move ! (1 ∷ 0 ∷ []) $ fjoin ! $ move ! (2 ∷ 0 ∷ []) $ use2 𝓛 (raw ((New 𝓛 mem run).pre to-new)) (qed 𝓛 ((‵ (flft κ q) ⊛ ‵ ftrue) ∷ ‵ (owns (ShrSlice (named 0) κ u8 ∷ []) (s, tt) (v ∷ [], tt)) ∷ []) ∵ join ! $ frame ! $ done !) $ frame ! $ done !
 
-  new-said : (r : Reader) → ent 𝓤 (ensured 𝓛 new.ended (new.clauses 𝓛 mem run) (κ, tt) (s, tt) tt r) (fact 𝓤 (r ≡ readerAt s 0))
-  new-said r = ex_e 𝓤 _ (λ ws. snd∗ 𝓤 (sem 𝓛 (lasts new.ended (κ, tt) (s, tt) ws)) (fact 𝓤 (r ≡ readerAt s 0)))
+  new-said : (r : Reader) → ent 𝓤 (ensured 𝓛 new.ended (new.clauses 𝓛 mem run) (κ, tt) (s, tt) tt r) (fact 𝓤 (r ≡ reader_at s 0))
+  new-said r = ex_e 𝓤 _ (λ ws. snd∗ 𝓤 (sem 𝓛 (lasts new.ended (κ, tt) (s, tt) ws)) (fact 𝓤 (r ≡ reader_at s 0)))
 
   -- the call of `moved`, at the struct r with the machine value u
   abbrev to-moved : Reader → Val → (Moved 𝓛 mem run).Ghost
@@ -125,8 +125,8 @@ module _ {M : Type 1} {𝓤 : Ura M} (𝓛 : Logic 𝓤) (mem : Memory → SProp
       qed 𝓛 (‵ ((B (κ, tt)).own r (u ∷ [])) ∷ (‵ (flft κ q) ⊛ ‵ ftrue) ∷ []) ∵
       nothing ! $ owned ! usize (Is usize) (uint_Makes 𝓛 w64) n _ (refl, ok) $ fjoin ! $ move ! (1 ∷ 0 ∷ []) $ fjoin ! $ move ! (1 ∷ 0 ∷ []) $ join ! $ frame ! $ done !
 
-  moved-said : (r r' : Reader) → ent 𝓤 (ensured 𝓛 moved.ended (moved.clauses 𝓛 mem run) (κ, tt) (r, (n, tt)) tt r') (fact 𝓤 (r' ≡ readerAt r.run n))
-  moved-said r r' = ex_e 𝓤 _ (λ ws. snd∗ 𝓤 (sem 𝓛 (lasts moved.ended (κ, tt) (r, (n, tt)) ws)) (fact 𝓤 (r' ≡ readerAt r.run n)))
+  moved-said : (r r' : Reader) → ent 𝓤 (ensured 𝓛 moved.ended (moved.clauses 𝓛 mem run) (κ, tt) (r, (n, tt)) tt r') (fact 𝓤 (r' ≡ reader_at r.run n))
+  moved-said r r' = ex_e 𝓤 _ (λ ws. snd∗ 𝓤 (sem 𝓛 (lasts moved.ended (κ, tt) (r, (n, tt)) ws)) (fact 𝓤 (r' ≡ reader_at r.run n)))
 
   -- the call of `next`, likewise
   abbrev to-next : Reader → Val → (Next 𝓛 mem run).Ghost
@@ -139,7 +139,7 @@ module _ {M : Type 1} {𝓤 : Ura M} (𝓛 : Logic 𝓤) (mem : Memory → SProp
   next-said r t = ex_e 𝓤 _ (λ ws. snd∗ 𝓤 (sem 𝓛 (lasts next.ended (κ, tt) (r, tt) ws)) (fact 𝓤 (t ≡ piece_at r.run.now r.at)))
 
   -- the three together
-  all_said : (r r' : Reader) (t : Piece) → r ≡ readerAt s 0 → r' ≡ readerAt r.run n → t ≡ piece_at r'.run.now r'.at → t ≡ found
+  all_said : (r r' : Reader) (t : Piece) → r ≡ reader_at s 0 → r' ≡ reader_at r.run n → t ≡ piece_at r'.run.now r'.at → t ≡ found
   all_said r r' t e e' e'' = e'' ∙ (ap (λ (x : Reader). piece_at x.run.now x.at) e' ∙ ap (λ (x : Reader). piece_at x.run.now n) e)
 
   exits : (t : Piece) (u : Val) → t ≡ found → ent 𝓤 (⋆ 𝓛 (‵ ((S.the_row).own_val t (u ∷ [])) ∷ (‵ (flft κ q) ⊛ ‵ ftrue) ∷ ‵ Own ∷ [])) (Post u)
@@ -156,14 +156,14 @@ module _ {M : Type 1} {𝓤 : Ura M} (𝓛 : Logic 𝓤) (mem : Memory → SProp
         move ! (10 ∷ []) $ use1 𝓛 (raw ((New 𝓛 mem run).pre to-new) ⊛ ‵ Own) goes-new $ split ! $
         calls_at ! fm (New 𝓛 mem run) known-new to-new (and_then ! (load ! (from ! (stop !)) (look ! 8 refl)) (no_more !)) (λ u.
         use1 𝓛 (later (some (λ (r : Reader). ((‵ (flft κ q) ⊛ ‵ ftrue) ⊛ ‵ ((B (κ, tt)).own r (u ∷ []))) ⊛ raw (ensured 𝓛 new.ended (new.clauses 𝓛 mem run) (κ, tt) (s, tt) tt r)))) (id⊢ 𝓤 _) $ await ! tt $ pick ! (λ r.
-        split ! $ move ! (1 ∷ []) $ use1 𝓛 (raw (fact 𝓤 (r ≡ readerAt s 0))) (new-said r) $ heard ! (r ≡ readerAt s 0) (λ e. split ! $ move ! (1 ∷ []) $
+        split ! $ move ! (1 ∷ []) $ use1 𝓛 (raw (fact 𝓤 (r ≡ reader_at s 0))) (new-said r) $ heard ! (r ≡ reader_at s 0) (λ e. split ! $ move ! (1 ∷ []) $
         -- [what the struct owns; the token; what s owns; room for _4; …; room for _3; …; _2; …; _1; …; room for _0; …]
         peeks ! (B (κ, tt)) (Is (B (κ, tt))) (shows 𝓛 (B (κ, tt))) r (u ∷ []) (λ is.
         land ! (from ! (stop !)) (init ! 3 refl ((LL.lawful (T.the_type αᵉ) (T'.the_laws αᵉ) 𝓛).typed r _ is).0) $
         use2 𝓛 (raw ((Moved 𝓛 mem run).pre (to-moved r u))) (goes_moved r u) $
         calls_at ! fm (Moved 𝓛 mem run) known-moved (to-moved r u) (and_then ! (load ! (from ! (stop !)) (look ! 2 refl)) (and_then ! (load ! (from ! (stop !)) (look ! 6 refl)) (no_more !))) (λ u'.
         use1 𝓛 (later (some (λ (r' : Reader). ((‵ (flft κ q) ⊛ ‵ ftrue) ⊛ ‵ ((B (κ, tt)).own r' (u' ∷ []))) ⊛ raw (ensured 𝓛 moved.ended (moved.clauses 𝓛 mem run) (κ, tt) (r, (n, tt)) tt r')))) (id⊢ 𝓤 _) $ await ! tt $ pick ! (λ r'.
-        split ! $ move ! (1 ∷ []) $ use1 𝓛 (raw (fact 𝓤 (r' ≡ readerAt r.run n))) (moved-said r r') $ heard ! (r' ≡ readerAt r.run n) (λ e'. split ! $ move ! (1 ∷ []) $
+        split ! $ move ! (1 ∷ []) $ use1 𝓛 (raw (fact 𝓤 (r' ≡ reader_at r.run n))) (moved-said r r') $ heard ! (r' ≡ reader_at r.run n) (λ e'. split ! $ move ! (1 ∷ []) $
         -- [what the struct owns; the token; what s owns; _4; …; room for _3; …; _2; …; _1; …; room for _0; …]
         peeks ! (B (κ, tt)) (Is (B (κ, tt))) (shows 𝓛 (B (κ, tt))) r' (u' ∷ []) (λ is'.
         land ! (from ! (stop !)) (init ! 5 refl ((LL.lawful (T.the_type αᵉ) (T'.the_laws αᵉ) 𝓛).typed r' _ is').0) $

@@ -6,16 +6,16 @@ use borrow.Author.Rules.{rules}
 use borrow.Author.Tests.{eq-eqb, ne_eqb}
 use lib.ListN.{replicate}
 use Rattle.desk.specs.Step.{Stepped, step_of}
-use Rattle.situations.specs.Rows.{afterRow}
+use Rattle.situations.specs.Rows.{after_row}
 use Rattle.situations.proofs.turn.Statement.{statement}
 use Rattle.situations.proofs.turn.Tie as tie
 
 returns : tie.Need-returns
-unfolding afterRow
+unfolding after_row
 returns c = rw (eq-eqb _ _ c.before.before.before.if1.true)
 
 returns-2 : tie.Need-returns-2
-unfolding afterRow
+unfolding after_row
 returns-2 c =
     let k = c.before.before.before.before.before in
     let m = k.before.before.before.before in

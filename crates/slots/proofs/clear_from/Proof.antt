@@ -5,8 +5,8 @@ use native.Mathlib.Omega.{arith}
 use lib.ListN.{take, set}
 use lib.Seq.{take-set-le}
 use borrow.Author.Rules.{rules}
-use Rattle.rules.specs.Rows.{noClaim, Row}
-use Rattle.rules.specs.RowLaws.{clear-last}
+use Rattle.rules.specs.Rows.{no_claim, Row}
+use Rattle.rules.specs.RowLaws.{clear_last}
 use Rattle.part.specs.Layout.{slots}
 use Rattle.slots.specs.Slots.{Slots}
 use Rattle.slots.proofs.clear_from.Statement.{statement}
@@ -32,9 +32,9 @@ loop-again c =
     let k = l.before.before.before.args.k in
     let h : k < m = p.before.before.loop-test.true in
     let old = slots 8 l.loop.row in
-    let e = p.put-slot.ensures.1 ∙ ap (set old (m - 1)) l.before.no-claim.ensures in
-    let w = clear-last l.loop.invariant.2 (m - 1) (omega arith) (omega arith) in
-    (omega arith, p.put-slot.ensures.0, rw e w.row, rw e (take-set-le k old (m - 1) noClaim (omega arith) ∙ l.loop.invariant.3))
+    let e = p.put_slot.ensures.1 ∙ ap (set old (m - 1)) l.before.no_claim_lem.ensures in
+    let w = clear_last l.loop.invariant.2 (m - 1) (omega arith) (omega arith) in
+    (omega arith, p.put_slot.ensures.0, rw e w.row, rw e (take-set-le k old (m - 1) no_claim (omega arith) ∙ l.loop.invariant.3))
 
 returns : tie.Need-returns invariant-loop decreases-loop
 returns c =

@@ -6,8 +6,8 @@ use native.Mathlib.Omega.{arith}
 use lib.ListN.{take, drop, get_or}
 use borrow.Author.Rules.{rules}
 use Rattle.law.specs.Calls.{before}
-use Rattle.rules.specs.Rows.{noClaim, first_of}
-use Rattle.rules.specs.RowLaws.{first-here, first_on, first-end}
+use Rattle.rules.specs.Rows.{no_claim, first_of}
+use Rattle.rules.specs.RowLaws.{first_here, first_on, first_end}
 use Rattle.part.specs.Layout.{slots}
 use Rattle.slots.proofs.place.Statement.{statement}
 use Rattle.slots.proofs.place.Tie as tie
@@ -23,7 +23,7 @@ decreases-loop row n c i₀ i = n - i
 asked : (c : tie.After-before2 invariant-loop decreases-loop) →
     let s = c.before.before.before in
     let a = s.before.before.args in
-    not (before (get_or (slots 8 a.row.now) s.loop.i noClaim) a.c) ≡ not c.before2.result
+    not (before (get_or (slots 8 a.row.now) s.loop.i no_claim) a.c) ≡ not c.before2.result
 asked c = rw (c.before2.ensures, c.before.slot_at.ensures)
 
 loop-holds : tie.Need-loop-init invariant-loop decreases-loop
@@ -39,12 +39,12 @@ returns : tie.Need-returns invariant-loop decreases-loop
 returns c =
     let l = c.before.before.before in
     let s = l.before in
-    (first-here s.before.before.requires.1 _ s.loop.i l.loop-test.true (asked c.before ∙ ap not c.if1.false) ∙ s.loop.invariant.1, omega arith)
+    (first_here s.before.before.requires.1 _ s.loop.i l.loop-test.true (asked c.before ∙ ap not c.if1.false) ∙ s.loop.invariant.1, omega arith)
 
 returns-2 : tie.Need-returns-2 invariant-loop decreases-loop
 returns-2 c =
     let s = c.before in
-    (first-end s.before.before.requires.1 _ s.loop.i (omega arith) ∙ s.loop.invariant.1, s.loop.invariant.0)
+    (first_end s.before.before.requires.1 _ s.loop.i (omega arith) ∙ s.loop.invariant.1, s.loop.invariant.0)
 
 pub place-spec : {M : Type 1} → statement M
 place-spec =

@@ -2,7 +2,7 @@
 use mathlib.Core.Path.{◌∙◌}
 use borrow.Author.Rules.{rules}
 use Rattle.part.specs.Layout.{ClaimFits}
-use Rattle.slots.specs.SlotsLaws.{set-fits, put-claim-in, put_in}
+use Rattle.slots.specs.SlotsLaws.{set_fits, put_claim_in, put_in}
 use Rattle.slots.proofs.put_slot.Statement.{statement}
 use Rattle.slots.proofs.put_slot.Tie as tie
 
@@ -24,8 +24,8 @@ returns : tie.Need-returns
 returns c =
     let s = c.before.before.before.before.before in
     let a = s.args in
-    put_in (set-fits a.row.now (λ i. (c.before.before.before.before.slice-known.given i).fits) a.i a.c (fits s))
-    (c.before.before.put-claim.ensures ∙ put-claim-in a.row.now s.requires.0 a.i a.c s.requires.1)
+    put_in (set_fits a.row.now (λ i. (c.before.before.before.before.slice-known.given i).fits) a.i a.c (fits s))
+    (c.before.before.put-claim.ensures ∙ put_claim_in a.row.now s.requires.0 a.i a.c s.requires.1)
 
 pub put-slot-spec : {M : Type 1} → statement M
 put-slot-spec = tie.close (tie.spec (λ c. search rules) (λ c κs. search rules) (λ c. search rules) returns)

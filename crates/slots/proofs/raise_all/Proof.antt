@@ -8,22 +8,22 @@ use lib.ListN.{length, get_or, set}
 use borrow.Author.Rules.{rules}
 use Rattle.law.specs.declared.Claim.{Claim}
 use Rattle.law.specs.declared.Entry.{Entry}
-use Rattle.law.specs.Entries.{entryBy, kind_at, kind_of}
-use Rattle.law.specs.Granting.{putTold}
-use Rattle.law.specs.DiskType.{diskTable, diskEntries}
-use Rattle.rules.specs.Rows.{noClaim}
-use Rattle.rules.specs.Pairs.{letsBy}
+use Rattle.law.specs.Entries.{entry_by, kind_at, kind_of}
+use Rattle.law.specs.Granting.{put_told}
+use Rattle.law.specs.DiskType.{disk_table, disk_entries}
+use Rattle.rules.specs.Rows.{no_claim}
+use Rattle.rules.specs.Pairs.{lets_by}
 use Rattle.rules.proofs.EntryLaws.{found_at}
 use Rattle.part.specs.Layout.{slots}
-use Rattle.part.specs.SlotLaws.{length-slots}
-use Rattle.slots.specs.Slots.{Slots, mapTo, raiseWith, raiseBy}
-use Rattle.slots.specs.SlotsLaws.{raise-amount, to_back, to_step}
+use Rattle.part.specs.SlotLaws.{length_slots}
+use Rattle.slots.specs.Slots.{Slots, map_to, raise_with, raise_by}
+use Rattle.slots.specs.SlotsLaws.{raise_amount, to_back, to_step}
 use Rattle.slots.proofs.raise_all.Statement.{statement}
 use Rattle.slots.proofs.raise_all.Tie as tie
 
 abbrev invariant-loop : tie.invariant-loop
 invariant-loop row₀ n m raise table col i₀ row i =
-    (i ≤ n) × Slots row × (slots 8 row ≡ mapTo i (raiseWith m raise) (slots 8 row₀))
+    (i ≤ n) × Slots row × (slots 8 row ≡ map_to i (raise_with m raise) (slots 8 row₀))
 
 abbrev decreases-loop : tie.decreases-loop
 decreases-loop row₀ n m raise table col i₀ row i = n - i
@@ -41,7 +41,7 @@ index-2-found : tie.Need-bounds-2-found invariant-loop decreases-loop
 index-2-found c = c.before.before.before.before.before.index_of.ensures.1
 
 entry-requires : tie.Need-entry-requires invariant-loop decreases-loop
-unfolding diskEntries
+unfolding disk_entries
 entry-requires c κs =
     let k = c.before.before in
     let z = k.before.before.before.before.before in
@@ -58,10 +58,10 @@ raised-requires c κs =
     let x = k.slot_at.result in
     let q =
     k.slot_at.ensures
-    ∙ ap (λ (cs : List Claim). get_or cs i noClaim) l.loop.invariant.2
-    ∙ to_back (raiseWith a.m a.raise) (slots 8 a.row.now) i i noClaim (omega arith) in
-    ap (λ (e : Entry). letsBy e false x.amount x.error a.raise) c.entry.ensures
-    ∙ ap (λ (w : Claim). letsBy (entryBy (kind_of diskTable w) (kind_at diskTable a.m)) false w.amount w.error a.raise) q
+    ∙ ap (λ (cs : List Claim). get_or cs i no_claim) l.loop.invariant.2
+    ∙ to_back (raise_with a.m a.raise) (slots 8 a.row.now) i i no_claim (omega arith) in
+    ap (λ (e : Entry). lets_by e false x.amount x.error a.raise) c.entry.ensures
+    ∙ ap (λ (w : Claim). lets_by (entry_by (kind_of disk_table w) (kind_at disk_table a.m)) false w.amount w.error a.raise) q
     ∙ s.requires.1.1 i k.before.before.loop-test.true
 
 loop-again : tie.Need-loop-preserved invariant-loop decreases-loop
@@ -72,22 +72,22 @@ loop-again c =
     let s = l.before.before.before in
     let a = s.args in
     let i = l.loop.i in
-    let f = raiseWith a.m a.raise in
+    let f = raise_with a.m a.raise in
     let cs = slots 8 a.row.now in
     let old = slots 8 l.loop.row in
-    let x = get_or old i noClaim in
+    let x = get_or old i no_claim in
     let amount =
     p.before.raised.ensures
-    ∙ ap (λ (e : Entry). (raiseBy k.slot_at.result e a.raise).amount) p.before.before.entry.ensures
+    ∙ ap (λ (e : Entry). (raise_by k.slot_at.result e a.raise).amount) p.before.before.entry.ensures
     ∙ ap (λ (w : Claim). (f w).amount) k.slot_at.ensures in
-    let h : i < length cs = omega (arith, length-slots 8 a.row.now, s.requires.1.0, k.before.before.loop-test.true) in (
+    let h : i < length cs = omega (arith, length_slots 8 a.row.now, s.requires.1.0, k.before.before.loop-test.true) in (
       omega arith,
       p.put-amount.ensures.0,
       p.put-amount.ensures.1
-          ∙ ap (λ (y : ℕ). set old i (putTold x x.told y)) amount
-          ∙ ap (λ (y : Claim). set old i y) (raise-amount x (entryBy (kind_of diskTable x) (kind_at diskTable a.m)) a.raise)
-          ∙ ap (λ (l : List Claim). set l i (f (get_or l i noClaim))) l.loop.invariant.2
-          ∙ to_step f cs i noClaim h,
+          ∙ ap (λ (y : ℕ). set old i (put_told x x.told y)) amount
+          ∙ ap (λ (y : Claim). set old i y) (raise_amount x (entry_by (kind_of disk_table x) (kind_at disk_table a.m)) a.raise)
+          ∙ ap (λ (l : List Claim). set l i (f (get_or l i no_claim))) l.loop.invariant.2
+          ∙ to_step f cs i no_claim h,
     )
 
 returns : tie.Need-returns invariant-loop decreases-loop
@@ -95,7 +95,7 @@ returns c =
     let l = c.before in
     let a = l.before.before.before.args in
     let q : l.loop.i ≡ a.n = omega arith in
-    (l.loop.invariant.1, l.loop.invariant.2 ∙ ap (λ (k : ℕ). mapTo k (raiseWith a.m a.raise) (slots 8 a.row.now)) q)
+    (l.loop.invariant.1, l.loop.invariant.2 ∙ ap (λ (k : ℕ). map_to k (raise_with a.m a.raise) (slots 8 a.row.now)) q)
 
 pub raise-all-spec : {M : Type 1} → statement M
 raise-all-spec =

@@ -6,14 +6,14 @@ use mathlib.Core.List.{List}
 use mathlib.Core.Path.{◌≡◌, ◌∙◌}
 use borrow.Author.Tests.{not-false}
 use lib.ListN.{get_or}
-use Rattle.law.specs.Lists.{all-passed}
+use Rattle.law.specs.Lists.{all_passed}
 use Rattle.law.specs.Says.{◌and◌}
 use Rattle.part.specs.Held.{held}
 use Rattle.sound.specs.declared.Seen.{Seen}
-use Rattle.sound.specs.Tests.{codeTests}
-use Rattle.sound.specs.Seen.{Ready, noneSeen, seenOf}
-use Rattle.sound.proofs.TestLaws.{failed, went, test-fails}
-use Rattle.sound.proofs.DiskLaws.{seen-not, seen_all}
+use Rattle.sound.specs.Tests.{code_tests}
+use Rattle.sound.specs.Seen.{Ready, none_seen, seen_of}
+use Rattle.sound.proofs.TestLaws.{failed, went, test_fails}
+use Rattle.sound.proofs.DiskLaws.{seen_not, seen_all}
 use Rattle.sound.proofs.is_sound.Statement.{statement}
 use Rattle.sound.proofs.is_sound.Tie as tie
 
@@ -21,9 +21,9 @@ abbrev part : tie.Start → List ℕ
 part k = k.args.s.now
 
 -- The test at place j fails: nothing is handed on.
-wrong : (k : tie.Start) (j : ℕ) {r : Seen} → r ≡ noneSeen → get_or (codeTests (held (part k))) j true ≡ false →
-    r ≡ seenOf (held (part k))
-wrong k j h e = h ∙ seen-not k.requires (test-fails (codeTests (held (part k))) j e)
+wrong : (k : tie.Start) (j : ℕ) {r : Seen} → r ≡ none_seen → get_or (code_tests (held (part k))) j true ≡ false →
+    r ≡ seen_of (held (part k))
+wrong k j h e = h ∙ seen_not k.requires (test_fails (code_tests (held (part k))) j e)
 
 -- Where the rows are made: the figures have passed.
 module _ (m : tie.After-most-in) where
@@ -84,7 +84,7 @@ returns-4 c =
     let a = walk k in
     let m = row a in
     seen_all (start m).pre (a.actives-fit.ensures.1.0 (not-false _ k.if2.left))
-    (all-passed (codeTests (held (part (start m))))
+    (all_passed (code_tests (held (part (start m))))
     ((ready m).figures
     and went a.actives-fit.ensures.0 k.if2.left
     and went w.waitings-hold.ensures t.if3.false

@@ -7,7 +7,7 @@ use lib.ListN.{length}
 use Rattle.num.specs.Runs.{splice}
 use Rattle.desk.specs.Step.{Stepped}
 use Rattle.stopblocker.specs.Lines.{lines_of}
-use Rattle.stopblocker.specs.Answering.{shownDisk, answerLines}
+use Rattle.stopblocker.specs.Answering.{shown_disk, answer_lines}
 use borrow.Author.Rules.{rules}
 use Rattle.stopblocker.proofs.answer_piece.Statement.{statement}
 use Rattle.stopblocker.proofs.answer_piece.Tie as tie
@@ -18,16 +18,16 @@ text-is : (c : tie.After-disk-shown) →
     c.before.before.before.before.before.before.before.before.before.before.args.number
     c.disk-shown.result
     c.before.before.before.before.step.new.1.1.0
-    ≡ answerLines
+    ≡ answer_lines
     c.before.before.before.before.before.before.before.before.before.before.args.board.now
     c.before.before.before.before.before.before.before.before.before.before.args.r.now
     c.before.before.before.before.before.before.before.before.before.before.args.number
-unfolding answerLines
+unfolding answer_lines
 text-is c =
     let t = c.before.before.before.before in
     let a = t.before.before.before.before.before.before.args in
     ap (λ d. lines_of a.number d t.step.new.1.1.0) c.disk-shown.ensures
-    ∙ ap (λ (s : Stepped). lines_of a.number (shownDisk s.code a.r.now) s.answer) t.step.ensures
+    ∙ ap (λ (s : Stepped). lines_of a.number (shown_disk s.code a.r.now) s.answer) t.step.ensures
 
 put-lines-requires : tie.Need-put-lines-requires
 put-lines-requires c κs = (search rules, omega arith)

@@ -6,10 +6,10 @@ use mathlib.Core.Path.{◌≡◌, refl, sym, ap, ◌∙◌}
 use native.Mathlib.Omega.{arith}
 use lib.ListN.{length, take}
 use Rattle.num.specs.Runs.{splice}
-use Rattle.num.specs.RunLaws.{length-splice}
+use Rattle.num.specs.RunLaws.{length_splice}
 use Rattle.records.specs.Pieces.{span, bytes_of}
-use Rattle.stopblocker.specs.Answering.{called, answerLines, due_at, reached, answeredTo, answeredBy, answeredRun}
-use Rattle.stopblocker.specs.AnsweringLaws.{due, answered-more, answered-none, answered-enough, take-splice}
+use Rattle.stopblocker.specs.Answering.{called, answer_lines, due_at, reached, answered_to, answered_by, answered_run}
+use Rattle.stopblocker.specs.AnsweringLaws.{due, answered_more, answered_none, answered_enough, take_splice}
 use borrow.Author.Rules.{rules}
 use Rattle.stopblocker.proofs.answer_run.Statement.{statement}
 use Rattle.stopblocker.proofs.answer_run.Tie as tie
@@ -22,7 +22,7 @@ record Going (b₀ s : List ℕ) (from : ℕ) (last : Bool) (l₀ b l : List ℕ
   room : at < length s → n ≤ 27 * at
   short : n ≤ 27 * at + 648
   count : number ≤ from + at
-  same : answeredBy (length s - at) s last (reached b (take n l) number at) ≡ answeredRun b₀ s from last
+  same : answered_by (length s - at) s last (reached b (take n l) number at) ≡ answered_run b₀ s from last
 
 module _ {b₀ s : List ℕ} {from : ℕ} {last : Bool} {l₀ : List ℕ} where
   begun : (to : ℕ) → to ≡ due_at s 0 last → Going b₀ s from last l₀ b₀ l₀ 0 from 0 to
@@ -51,7 +51,7 @@ module _ {b₀ s : List ℕ} {from : ℕ} {last : Bool} {l₀ : List ℕ} where
     piece = bytes_of s (span at to)
 
     abbrev text : List ℕ
-    text = answerLines b piece (number + 1)
+    text = answer_lines b piece (number + 1)
 
     again : (b' l' : List ℕ) (n' to' : ℕ) → length b' ≡ length b → b' ≡ (called b piece).bytes → n' ≡ n + length text →
         l' ≡ splice l n text → n' ≤ n + 648 → to' ≡ due_at s to last → Going b₀ s from last l₀ b' l' n' (number + 1) to to'
@@ -60,10 +60,10 @@ module _ {b₀ s : List ℕ} {from : ℕ} {last : Bool} {l₀ : List ℕ} where
         let m = length s - at - 1 in
         let q : length s - at ≡ suc m = omega (arith, inside) in
         let d : at < due_at s at last = omega (arith, g.stop) in
-        let w : take n' l' ≡ take n l ++ text = rw (hn, hl) (take-splice l n text (omega (arith, hn, free))) in
+        let w : take n' l' ≡ take n l ++ text = rw (hn, hl) (take_splice l n text (omega (arith, hn, free))) in
         record {
           board = k ∙ g.board;
-          size = ap length hl ∙ (length-splice l n text ∙ g.size);
+          size = ap length hl ∙ (length_splice l n text ∙ g.size);
           stop = ht;
           within = inside;
           room =
@@ -72,17 +72,17 @@ module _ {b₀ s : List ℕ} {from : ℕ} {last : Bool} {l₀ : List ℕ} where
           short = omega (arith, g.room (omega (arith, inside)));
           count = omega (arith, g.count);
           same =
-              ap (λ x. answeredBy (length s - to) s last (reached x (take n' l') (number + 1) to)) hb
-              ∙ (ap (λ x. answeredBy (length s - to) s last (reached (called b piece).bytes x (number + 1) to)) w
-              ∙ (answered-enough s last (length s - to) m (answeredTo s e to) inside (omega arith) (omega arith)
-              ∙ (ap (λ x. answeredBy m s last (answeredTo s e x)) g.stop
-              ∙ (sym (answered-more s last m e d) ∙ (ap (λ x. answeredBy x s last e) (sym q) ∙ g.same)))));
+              ap (λ x. answered_by (length s - to) s last (reached x (take n' l') (number + 1) to)) hb
+              ∙ (ap (λ x. answered_by (length s - to) s last (reached (called b piece).bytes x (number + 1) to)) w
+              ∙ (answered_enough s last (length s - to) m (answered_to s e to) inside (omega arith) (omega arith)
+              ∙ (ap (λ x. answered_by m s last (answered_to s e x)) g.stop
+              ∙ (sym (answered_more s last m e d) ∙ (ap (λ x. answered_by x s last e) (sym q) ∙ g.same)))));
         }
 
   done : {b l : List ℕ} {n number at to : ℕ} → Going b₀ s from last l₀ b l n number at to → to ≤ at →
-      reached b (take n l) number at ≡ answeredRun b₀ s from last
+      reached b (take n l) number at ≡ answered_run b₀ s from last
   done {b} {l} {n} {number} {at} {to} g h =
-      sym (answered-none s last (length s - at) (reached b (take n l) number at) (omega (arith, g.stop))) ∙ g.same
+      sym (answered_none s last (length s - at) (reached b (take n l) number at) (omega (arith, g.stop))) ∙ g.same
 
 abbrev invariant-loop : tie.invariant-loop
 invariant-loop board₀ run from last lines₀ length₀ number₀ at₀ to₀ board lines n number at to =

@@ -7,7 +7,7 @@ use native.Mathlib.Omega.{arith}
 use lib.ListN.{length, get_or, set, take, drop, length-set, length-drop}
 use lib.Seq.{length-take-le, take-suc, get_or-drop, get_or-set_other}
 use Rattle.num.specs.Runs.{splice}
-use Rattle.num.specs.RunLaws.{splice-none, splice-splice}
+use Rattle.num.specs.RunLaws.{splice_none, splice_splice}
 use borrow.Author.Rules.{rules}
 use Rattle.stopblocker.proofs.carry.Statement.{statement}
 use Rattle.stopblocker.proofs.carry.Tie as tie
@@ -21,7 +21,7 @@ module _ (l : List ℕ) (at end : ℕ) where
     front : run ≡ splice l 0 (take i (drop at l))
 
   begun : Moved l 0
-  begun = record { most = omega arith; size = refl; kept = λ k h. refl; front = sym (splice-none l 0) }
+  begun = record { most = omega arith; size = refl; kept = λ k h. refl; front = sym (splice_none l 0) }
 
   module _ (fits : end ≤ length l) (run : List ℕ) (i : ℕ) (m : Moved run i) (h : i < end - at) where
     abbrev b : ℕ
@@ -45,7 +45,7 @@ module _ (l : List ℕ) (at end : ℕ) where
           kept = λ k g. get_or-set_other run i k b 0 (λ (e : k ≡ i). omega arith) ∙ m.kept k (omega arith);
           front =
               ap (λ (r : List ℕ). set r i b) m.front
-              ∙ (splice-splice l 0 i (take i (drop at l)) (b ∷ []) front-size ∙ ap (splice l 0) (sym next-byte));
+              ∙ (splice_splice l 0 i (take i (drop at l)) (b ∷ []) front-size ∙ ap (splice l 0) (sym next-byte));
         }
 
 abbrev invariant-loop : tie.invariant-loop

@@ -2,23 +2,23 @@
 use mathlib.Core.Path.{sym}
 use borrow.Author.Tests.{eq-eqb, ne_eqb}
 use lib.ListN.{get_or-eq_default}
-use Rattle.stopblocker.specs.Answering.{shownDisk}
+use Rattle.stopblocker.specs.Answering.{shown_disk}
 use borrow.Author.Rules.{rules}
 use Rattle.stopblocker.proofs.disk_shown.Statement.{statement}
 use Rattle.stopblocker.proofs.disk_shown.Tie as tie
 
 returns : tie.Need-returns
-unfolding shownDisk
+unfolding shown_disk
 returns c = rw (eq-eqb c.before.args.code 10 c.if1.true)
 
 returns-2 : tie.Need-returns-2
-unfolding shownDisk
+unfolding shown_disk
 returns-2 c =
     let a = c.before.before.args in
     rw (ne_eqb a.code 10 c.before.if1.false) (sym (get_or-eq_default a.r.now 0 {n = 3} c.if2.true))
 
 returns-3 : tie.Need-returns-3
-unfolding shownDisk
+unfolding shown_disk
 returns-3 c = rw (ne_eqb c.before.before.before.args.code 10 c.before.before.if1.false)
 
 pub disk-shown-spec : {M : Type 1} → statement M

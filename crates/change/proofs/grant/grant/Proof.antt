@@ -8,16 +8,16 @@ use mir.Facts.{to_z-of_z}
 use mir.Syntax.{w32}
 use mir.Val.{SFits}
 use Rattle.law.specs.Entries.{kind_at}
-use Rattle.law.specs.DiskType.{diskTable}
-use Rattle.rules.specs.Methods.{isReading}
+use Rattle.law.specs.DiskType.{disk_table}
+use Rattle.rules.specs.Methods.{is_reading}
 use Rattle.rules.specs.declared.disk.Disk.{Disk}
 use Rattle.rules.specs.Disks.{Good}
 use Rattle.part.specs.Layout.{decode}
 use Rattle.part.specs.Held.{HoldsDisk}
-use Rattle.part.specs.PartLaws.{disk-good}
-use Rattle.change.specs.HoldingLaws.{disk-holds, holds-disk}
-use Rattle.change.proofs.ChangeLaws.{grant-place, raised-good}
-use Rattle.change.proofs.GrantLaws.{note-fits, read-grants, write-grants}
+use Rattle.part.specs.PartLaws.{disk_good}
+use Rattle.change.specs.HoldingLaws.{disk_holds, holds_disk}
+use Rattle.change.proofs.ChangeLaws.{grant_place, raised_good}
+use Rattle.change.proofs.GrantLaws.{note_fits, read_grants, write_grants}
 use Rattle.change.proofs.grant.grant.Statement.{statement}
 use Rattle.change.proofs.grant.grant.Tie as tie
 
@@ -26,7 +26,7 @@ abbrev disk : tie.Start → Disk
 disk z = decode z.args.s.now
 
 good : (z : tie.Start) → Good (disk z)
-good z = disk-good z.requires.0
+good z = disk_good z.requires.0
 
 -- From the test, the count before it and the start.
 abbrev at_count : tie.After-is-reading → tie.After-actives-at
@@ -41,25 +41,25 @@ at_test r = r.before.before.before
 abbrev at-raise : tie.After-note → tie.After-raise-on
 at-raise n = n.before.before.before.before
 
-reads-it : (t : tie.After-is-reading) {b : Bool} → t.is-reading.result ≡ b → isReading (kind_at diskTable (at-start t).args.c.method) ≡ b
+reads-it : (t : tie.After-is-reading) {b : Bool} → t.is-reading.result ≡ b → is_reading (kind_at disk_table (at-start t).args.c.method) ≡ b
 reads-it t e = sym t.is-reading.ensures ∙ e
 
 -- There is a place.
 room : (t : tie.After-is-reading) → (at_count t).actives-at.result < 8
 room t =
     let z = at-start t in
-    omega (arith, (at_count t).actives-at.ensures, grant-place (disk z) z.args.c (good z) z.pre.1.0)
+    omega (arith, (at_count t).actives-at.ensures, grant_place (disk z) z.args.c (good z) z.pre.1.0)
 
 -- With the active claims raised, and with the total noted, the part holds a disk again.
 raised : (r : tie.After-raise-on) → HoldsDisk r.raise-on.new.0
 raised r =
     let z = at-start (at_test r) in
-    holds-disk r.raise-on.ensures (raised-good (disk z) z.args.c (good z))
+    holds_disk r.raise-on.ensures (raised_good (disk z) z.args.c (good z))
 
 noted : (n : tie.After-note) → HoldsDisk n.note.new.0
 noted n =
-    let g = disk-good (raised (at-raise n)) in
-    holds-disk n.note.ensures (record { active = g.active; waiting = g.waiting })
+    let g = disk_good (raised (at-raise n)) in
+    holds_disk n.note.ensures (record { active = g.active; waiting = g.waiting })
 
 put-last-requires : tie.Need-put-last-requires
 put-last-requires c κs =
@@ -72,7 +72,7 @@ returns c =
     let t = f.before in
     let z = at-start t in
     let told : SFits w32 z.args.told = search rules in
-    read-grants (disk z) z.args.c (good z) z.pre.1.0 (reads-it t f.if1.true) (at_count t).actives-at.ensures
+    read_grants (disk z) z.args.c (good z) z.pre.1.0 (reads-it t f.if1.true) (at_count t).actives-at.ensures
     (to_z-of_z told ∙ z.pre.1.1.0) z.pre.1.1.1 c.before.before.put_last.ensures
 
 raise-on-requires : tie.Need-raise-on-requires
@@ -86,8 +86,8 @@ note-requires c κs =
     let r = c.before.before.before in
     let t = at_test r in
     let z = at-start t in
-    let whole = disk-holds z.pre.0 (λ i. ((at_count t).before.before.slice-known.given i).fits) in
-    (raised r, note-fits (disk z) z.args.c (good z) z.pre.1.0 whole z.pre.1.1.1)
+    let whole = disk_holds z.pre.0 (λ i. ((at_count t).before.before.slice-known.given i).fits) in
+    (raised r, note_fits (disk z) z.args.c (good z) z.pre.1.0 whole z.pre.1.1.1)
 
 put-last-requires-2 : tie.Need-put-last-requires-2
 put-last-requires-2 c κs =
@@ -100,7 +100,7 @@ returns-2 c =
     let r = at-raise n in
     let t = at_test r in
     let z = at-start t in
-    write-grants (disk z) z.args.c (good z) z.pre.1.0 (reads-it t r.before.before.if1.left) (at_count t).actives-at.ensures
+    write_grants (disk z) z.args.c (good z) z.pre.1.0 (reads-it t r.before.before.if1.left) (at_count t).actives-at.ensures
     z.pre.1.1.1 r.raise-on.ensures n.note.ensures c.before.before.put-last2.ensures
 
 pub grant-spec : {M : Type 1} → statement M

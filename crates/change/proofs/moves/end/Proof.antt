@@ -5,16 +5,16 @@ use borrow.Author.Rules.{rules}
 use lib.ListN.{take, drop, get_or}
 use lib.Seq.{get_or-take}
 use Rattle.law.specs.declared.Claim.{Claim}
-use Rattle.rules.specs.Rows.{noClaim}
-use Rattle.rules.specs.RowLaws.{row-length}
+use Rattle.rules.specs.Rows.{no_claim}
+use Rattle.rules.specs.RowLaws.{row_length}
 use Rattle.rules.specs.declared.disk.Disk.{Disk}
-use Rattle.rules.specs.Disks.{diskOf, Good}
+use Rattle.rules.specs.Disks.{disk_of, Good}
 use Rattle.part.specs.Layout.{slots, decode}
-use Rattle.change.specs.Holding.{Holds, landOf, LandFits}
-use Rattle.part.specs.PartLaws.{disk-good}
-use Rattle.change.specs.HoldingLaws.{active-lent, active-slots}
-use Rattle.change.proofs.ChangeLaws.{land-fits}
-use Rattle.change.proofs.MoveLaws.{end-part}
+use Rattle.change.specs.Holding.{Holds, land_of, LandFits}
+use Rattle.part.specs.PartLaws.{disk_good}
+use Rattle.change.specs.HoldingLaws.{active_lent, active_slots}
+use Rattle.change.proofs.ChangeLaws.{land_fits}
+use Rattle.change.proofs.MoveLaws.{end_part}
 use Rattle.change.proofs.moves.end.Statement.{statement}
 use Rattle.change.proofs.moves.end.Tie as tie
 
@@ -23,7 +23,7 @@ abbrev disk : tie.Start → Disk
 disk z = decode z.args.s.now
 
 abbrev ending : tie.Start → Claim
-ending z = get_or (disk z).active z.args.at noClaim
+ending z = get_or (disk z).active z.args.at no_claim
 
 -- How many are active, from what has landed, and the start from there.
 abbrev at_count : tie.After-land → tie.After-actives-at
@@ -33,20 +33,20 @@ abbrev at-start : tie.After-land → tie.Start
 at-start l = (at_count l).before.before.before
 
 good : (z : tie.Start) → Good (disk z)
-good z = disk-good z.requires.0.disk
+good z = disk_good z.requires.0.disk
 
 lands : (z : tie.Start) → LandFits (disk z) (ending z)
 lands z =
-    rw (get_or-take (disk z).actives (disk z).active z.args.at noClaim z.requires.1) at
-    (land-fits (diskOf (disk z)) z.args.at z.requires.0.sound (omega (arith, z.requires.1, row-length (good z).active)))
+    rw (get_or-take (disk z).actives (disk z).active z.args.at no_claim z.requires.1) at
+    (land_fits (disk_of (disk z)) z.args.at z.requires.0.sound (omega (arith, z.requires.1, row_length (good z).active)))
 
 -- What has landed; the active claims still stand there.
-landed : (l : tie.After-land) → Holds l.land.new.0 (landOf (disk (at-start l)) (ending (at-start l)))
+landed : (l : tie.After-land) → Holds l.land.new.0 (land_of (disk (at-start l)) (ending (at-start l)))
 landed l = rw l.before.active-at.ensures at l.land.ensures
 
 still : (l : tie.After-land) → slots 8 (take 352 (drop 64 l.land.new.0)) ≡ (disk (at-start l)).active
-unfolding landOf
-still l = active-slots (landed l)
+unfolding land_of
+still l = active_slots (landed l)
 
 active-at-requires : tie.Need-active-at-requires
 active-at-requires c κs =
@@ -61,7 +61,7 @@ land-requires c κs =
 take-out-requires : tie.Need-take-out-requires
 take-out-requires c κs =
     let l = c.before.before.before in
-    (active-lent (landed l), rw ((at_count l).actives-at.ensures, still l) ((good (at-start l)).active, (at-start l).requires.1))
+    (active_lent (landed l), rw ((at_count l).actives-at.ensures, still l) ((good (at-start l)).active, (at-start l).requires.1))
 
 sub-put-numbers : tie.Need-overflow-sub-put-numbers
 sub-put-numbers c =
@@ -74,7 +74,7 @@ returns c =
     let l = t.before.before.before.before in
     let z = at-start l in
     c.before.before.put-numbers.ensures
-    ∙ end-part (good z) z.fits.second.fits t.take_out.ensures.0 (at_count l).actives-at.ensures z.args.at z.pre.1 (landed l) t.take_out.ensures.1
+    ∙ end_part (good z) z.fits.second.fits t.take_out.ensures.0 (at_count l).actives-at.ensures z.args.at z.pre.1 (landed l) t.take_out.ensures.1
 
 pub end-spec : {M : Type 1} → statement M
 end-spec =

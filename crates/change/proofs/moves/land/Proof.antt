@@ -10,22 +10,22 @@ use mir.Facts.{to_z-of_z}
 use mir.Syntax.{w32}
 use mir.Val.{SFits, to_z, of_z}
 use Rattle.num.specs.Bits.{shares}
-use Rattle.num.specs.Metric.{size-add}
-use Rattle.num.specs.Word.{putWord}
-use Rattle.num.specs.Signed.{putSigned}
+use Rattle.num.specs.Metric.{size_add}
+use Rattle.num.specs.Word.{put_word}
+use Rattle.num.specs.Signed.{put_signed}
 use Rattle.law.specs.declared.Attr.{Attr}
 use Rattle.law.specs.Types.{Attribute, a0, a1, a2}
 use Rattle.rules.specs.Methods.{mask_of}
 use Rattle.part.specs.Layout.{decode}
-use Rattle.change.specs.Holding.{Holds, landOf}
-use Rattle.change.specs.HoldingLaws.{disk-holds}
-use Rattle.change.proofs.MoveLaws.{place_of, set-lands, add-lands, none-lands}
+use Rattle.change.specs.Holding.{Holds, land_of}
+use Rattle.change.specs.HoldingLaws.{disk_holds}
+use Rattle.change.proofs.MoveLaws.{place_of, set_lands, add_lands, none_lands}
 use Rattle.change.proofs.moves.land.Statement.{statement}
 use Rattle.change.proofs.moves.land.Tie as tie
 
 -- The part holds the disk that is read from it.
 whole : (k : tie.After-slice-known) → Holds k.before.args.s.now (decode k.before.args.s.now)
-whole k = disk-holds k.before.requires.0 (λ i. (k.slice-known.given i).fits)
+whole k = disk_holds k.before.requires.0 (λ i. (k.slice-known.given i).fits)
 
 fits : (z : tie.Start) → SFits w32 z.args.w.value × (z.args.w.measured < 2 ^ 32)
 fits z = search rules
@@ -44,12 +44,12 @@ at-sets4 k = at-sets3 k.before.before.before
 stored : (m : tie.After-sets) (a : Attribute) {r : List ℕ} {b : Bool} →
     let s = m.before.before.args.s.now in
     let w = m.before.before.args.w in
-    r ≡ putWord (putSigned s (place_of a) (to_z w32 (of_z w32 w.value))) (place_of a + 4) w.decreases → b ≡ shares m.sets.result (mask_of a) →
-    b ≡ true → Holds r (landOf (decode s) w)
+    r ≡ put_word (put_signed s (place_of a) (to_z w32 (of_z w32 w.value))) (place_of a + 4) w.decreases → b ≡ shares m.sets.result (mask_of a) →
+    b ≡ true → Holds r (land_of (decode s) w)
 stored m a e x y =
     let z = m.before.before in
     let f = fits z in
-    rw (e, to_z-of_z f.0) (set-lands (whole m.before) z.args.w a f.0.sfits f.1 m.sets.ensures x y)
+    rw (e, to_z-of_z f.0) (set_lands (whole m.before) z.args.w a f.0.sfits f.1 m.sets.ensures x y)
 
 -- From the sum, the test before it and the start.
 abbrev at_test : tie.After-plus → tie.After-share4
@@ -86,7 +86,7 @@ narrow-requires : tie.Need-narrow-requires
 narrow-requires c κs =
     let a = (at-start c).args in
     rw (to_z-of_z (record { sfits = c.plus.type-inv }), sum_is c)
-    (omega (arith, size-add (decode a.s.now).promised.value a.w.value, (at-start c).requires.1))
+    (omega (arith, size_add (decode a.s.now).promised.value a.w.value, (at-start c).requires.1))
 
 returns-4 : tie.Need-returns-4
 returns-4 c =
@@ -94,7 +94,7 @@ returns-4 c =
     let p = n.before in
     let t = at_test p in
     rw (c.before.before.put-signed.ensures, to_z-of_z (record { sfits = n.narrow.type-inv }))
-    (add-lands (whole (at-sets4 t).before) (at-start p).args.w n.narrow.type-inv (n.narrow.ensures ∙ to_z-of_z (record { sfits = p.plus.type-inv }) ∙ sum_is p)
+    (add_lands (whole (at-sets4 t).before) (at-start p).args.w n.narrow.type-inv (n.narrow.ensures ∙ to_z-of_z (record { sfits = p.plus.type-inv }) ∙ sum_is p)
     t.before.adds.ensures t.share4.ensures p.before.before.before.before.before.before.if4.true)
 
 returns-5 : tie.Need-returns-5
@@ -104,7 +104,7 @@ returns-5 c =
     let second = third.before.before in
     let first = second.before.before in
     let m = at-sets4 fourth in
-    none-lands (whole m.before) m.before.before.args.w m.sets.ensures first.before.share.ensures first.if1.false
+    none_lands (whole m.before) m.before.before.args.w m.sets.ensures first.before.share.ensures first.if1.false
     second.before.share2.ensures second.if2.false third.before.share3.ensures third.if3.false
     fourth.before.adds.ensures fourth.share4.ensures c.if4.false
 

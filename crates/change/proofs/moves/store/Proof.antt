@@ -4,8 +4,8 @@ use mathlib.Core.List.{List}
 use mathlib.Core.Path.{ap, ◌∙◌}
 use borrow.Author.Rules.{rules}
 use mir.Facts.{to_z-of_z}
-use Rattle.num.specs.Word.{putWord}
-use Rattle.num.specs.Signed.{putSigned}
+use Rattle.num.specs.Word.{put_word}
+use Rattle.num.specs.Signed.{put_signed}
 use Rattle.change.proofs.moves.store.Statement.{statement}
 use Rattle.change.proofs.moves.store.Tie as tie
 
@@ -13,8 +13,8 @@ returns : tie.Need-returns
 returns c =
     let a = c.before.before.before.before.before.before.before.before.before.args in
     c.before.before.put_word.ensures
-    ∙ ap (λ (r : List ℕ). putWord r (a.at + 4) a.stamp)
-    (c.before.before.before.before.before.before.put-signed.ensures ∙ ap (putSigned a.s.now a.at) (to_z-of_z c.before.before.before.before.before.before.before.before.before.ranges.value))
+    ∙ ap (λ (r : List ℕ). put_word r (a.at + 4) a.stamp)
+    (c.before.before.before.before.before.before.put-signed.ensures ∙ ap (put_signed a.s.now a.at) (to_z-of_z c.before.before.before.before.before.before.before.before.before.ranges.value))
 
 pub store_spec : {M : Type 1} → statement M
 store_spec =

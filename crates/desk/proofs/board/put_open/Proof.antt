@@ -5,9 +5,9 @@ use mathlib.Core.Path.{ap, ◌∙◌}
 use native.Mathlib.Omega.{arith}
 use borrow.Author.Rules.{rules}
 use borrow.Rule.Slice.PartMut.{mid_len}
-use Rattle.num.specs.Opened.{setOpen}
-use Rattle.desk.specs.Board.{withPart}
-use Rattle.desk.proofs.FrameLaws.{wide, put-part}
+use Rattle.num.specs.Opened.{set_open}
+use Rattle.desk.specs.Board.{with_part}
+use Rattle.desk.proofs.FrameLaws.{wide, put_part}
 use Rattle.desk.proofs.board.put_open.Statement.{statement}
 use Rattle.desk.proofs.board.put_open.Tie as tie
 
@@ -23,9 +23,9 @@ returns : tie.Need-returns
 returns c =
     let a = c.before.before.before.before.before.before.before.before.before.args in
     c.before.before.set-open.ensures
-    ∙ ap (λ (b : List ℕ). setOpen b a.d)
-    (put-part a.board.now c.before.before.before.before.before.before.put-disk.new.0 a.d
-    ∙ ap (withPart a.board.now a.d) c.before.before.before.before.before.before.put-disk.ensures)
+    ∙ ap (λ (b : List ℕ). set_open b a.d)
+    (put_part a.board.now c.before.before.before.before.before.before.put-disk.new.0 a.d
+    ∙ ap (with_part a.board.now a.d) c.before.before.before.before.before.before.put-disk.ensures)
 
 pub put-open-spec : {M : Type 1} → statement M
 put-open-spec =

@@ -2,7 +2,7 @@
 use native.Mathlib.Omega.{arith}
 use borrow.Author.Rules.{rules, sfits_of}
 use mir.Facts.{to_z-of_z}
-use Rattle.desk.specs.Record.{askedIn}
+use Rattle.desk.specs.Record.{asked_in}
 use Rattle.desk.proofs.record.asked_in.Statement.{statement}
 use Rattle.desk.proofs.record.asked_in.Tie as tie
 
@@ -16,7 +16,7 @@ cast-t11 : tie.Need-overflow-cast-t11
 cast-t11 c = record { fits = omega (arith, c.before.before.before.shared-slice-known.given 6) }
 
 returns : tie.Need-returns
-unfolding askedIn
+unfolding asked_in
 returns c =
     rw (to_z-of_z (sfits_of c.before.signed-at.type-inv), c.before.before.word_at.ensures, c.before.signed-at.ensures, c.word-at2.ensures)
 

@@ -4,9 +4,9 @@ use mathlib.Core.List.{List, [], ◌∷◌}
 use mathlib.Core.Path.{◌≡◌, refl, ap}
 use borrow.Author.Rules.{rules}
 use lib.ListN.{length, get_or, replicate}
-use Rattle.num.specs.Word.{putWord}
+use Rattle.num.specs.Word.{put_word}
 use Rattle.num.specs.Runs.{le4, flat}
-use Rattle.desk.specs.Record.{laidOut}
+use Rattle.desk.specs.Record.{laid_out}
 use Rattle.desk.proofs.record.laid_out.Statement.{statement}
 use Rattle.desk.proofs.record.laid_out.Tie as tie
 
@@ -24,19 +24,19 @@ sized s = search rules
 
 -- The words put into the bytes of the head and zeros.
 laid : (kind disk method priority flag : ℕ) (w : List ℕ) → length w ≡ 4 →
-    putWord
-    (putWord
-    (putWord
-    (putWord (0x52 ∷ 0x42 ∷ kind ∷ disk ∷ method ∷ priority ∷ flag ∷ replicate 17 0) 8 (get_or w 0 0))
+    put_word
+    (put_word
+    (put_word
+    (put_word (0x52 ∷ 0x42 ∷ kind ∷ disk ∷ method ∷ priority ∷ flag ∷ replicate 17 0) 8 (get_or w 0 0))
     12
     (get_or w 1 0))
     16
     (get_or w 2 0))
     20
     (get_or w 3 0)
-    ≡ laidOut kind disk method priority flag w
-unfolding putWord flat le4
-laid kind disk method priority flag w h = ap (laidOut kind disk method priority flag) (four w h)
+    ≡ laid_out kind disk method priority flag w
+unfolding put_word flat le4
+laid kind disk method priority flag w h = ap (laid_out kind disk method priority flag) (four w h)
 
 returns : tie.Need-returns
 returns c =

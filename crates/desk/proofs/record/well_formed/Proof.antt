@@ -3,35 +3,35 @@ use mathlib.Core.Bool.{and-true, and-false}
 use native.Mathlib.Omega.{arith}
 use borrow.Author.Rules.{rules}
 use borrow.Author.Tests.{eq-eqb, ne_eqb, le-leb, lt-leb}
-use Rattle.desk.specs.Record.{wellFormed}
+use Rattle.desk.specs.Record.{well_formed}
 use Rattle.desk.proofs.record.well_formed.Statement.{statement}
 use Rattle.desk.proofs.record.well_formed.Tie as tie
 
 returns : tie.Need-returns
-unfolding wellFormed
+unfolding well_formed
 returns c = rw (ne_eqb _ _ c.if1.true)
 
 returns-2 : tie.Need-returns-2
-unfolding wellFormed
+unfolding well_formed
 returns-2 c = rw (ne_eqb _ _ c.if2.true) (simp and-false)
 
 returns-3 : tie.Need-returns-3
-unfolding wellFormed
+unfolding well_formed
 returns-3 c = rw (ne_eqb _ _ c.if3.true) (simp and-false)
 
 returns-4 : tie.Need-returns-4
-unfolding wellFormed
+unfolding well_formed
 returns-4 c = rw (ne_eqb _ _ c.if4.true) (simp and-false)
 
 cast-if5 : tie.Need-overflow-cast-if5
 cast-if5 c = record { fits = omega (arith, c.shared-slice-known5.given 6) }
 
 returns-5 : tie.Need-returns-5
-unfolding wellFormed
+unfolding well_formed
 returns-5 c = rw (lt-leb _ _ c.if5.true) (simp and-false)
 
 returns-6 : tie.Need-returns-6
-unfolding wellFormed
+unfolding well_formed
 returns-6 c =
     rw (
       eq-eqb _ _ c.before.before.before.before.before.before.before.before.before.before.if1.false,

@@ -4,16 +4,16 @@ use mathlib.Core.Path.{◌≡◌, refl, sym, ap, ◌∙◌}
 use borrow.Author.Rules.{rules}
 use borrow.Author.Tests.{not-true, not-false}
 use Rattle.law.specs.Types.{Disk as LawDisk}
-use Rattle.law.specs.SoundTest.{says-sound}
-use Rattle.law.specs.DiskType.{diskTable}
+use Rattle.law.specs.SoundTest.{says_sound}
+use Rattle.law.specs.DiskType.{disk_table}
 use Rattle.law.specs.Sound.{sound}
-use Rattle.rules.specs.Totals.{noTotals, totalsOf}
+use Rattle.rules.specs.Totals.{no_totals, totals_of}
 use Rattle.part.specs.Layout.{decode, decodes}
 use Rattle.part.specs.Held.{held, HoldsSound}
 use Rattle.sound.specs.declared.Seen.{Seen}
-use Rattle.sound.specs.Seen.{seenOf}
+use Rattle.sound.specs.Seen.{seen_of}
 use Rattle.desk.specs.Record.{call_of}
-use Rattle.desk.proofs.ServeLaws.{serve-undecoded, serve-unsound, serve-claims, serve-releases, asked-new, asked-request}
+use Rattle.desk.proofs.ServeLaws.{serve_undecoded, serve_unsound, serve_claims, serve_releases, asked_new, asked_request}
 use Rattle.desk.proofs.serve.serve.Statement.{statement}
 use Rattle.desk.proofs.serve.serve.Tie as tie
 
@@ -32,23 +32,23 @@ whole : (l : tie.Else1) → decodes (at_1 l).args.part.now ≡ true
 whole l = sym l.before.decodes.ensures ∙ not-false _ l.if1.false
 
 -- What is seen of a disk.
-ok-is : {s : Seen} (d : LawDisk) → s ≡ seenOf d → s.ok ≡ sound diskTable d
-unfolding seenOf
+ok-is : {s : Seen} (d : LawDisk) → s ≡ seen_of d → s.ok ≡ sound disk_table d
+unfolding seen_of
 ok-is d e = ap (λ (x : Seen). x.ok) e
 
-totals-are : {s : Seen} (d : LawDisk) → s ≡ seenOf d → sound diskTable d ≡ true → s.totals ≡ totalsOf d.core.active
-unfolding seenOf
-totals-are d e h = ap (λ (x : Seen). x.totals) e ∙ ap (λ (b : Bool). cond b (totalsOf d.core.active) noTotals) h
+totals-are : {s : Seen} (d : LawDisk) → s ≡ seen_of d → sound disk_table d ≡ true → s.totals ≡ totals_of d.core.active
+unfolding seen_of
+totals-are d e h = ap (λ (x : Seen). x.totals) e ∙ ap (λ (b : Bool). cond b (totals_of d.core.active) no_totals) h
 
 module _ (l : tie.Else2) where
   abbrev disk : LawDisk
   disk = held (at-2 l).args.part.now
 
-  sound-here : sound diskTable disk ≡ true
+  sound-here : sound disk_table disk ≡ true
   sound-here = sym (ok-is disk l.before.before.is-sound.ensures) ∙ not-false _ l.if2.left
 
   holds : HoldsSound (at-2 l).args.part.now
-  holds = record { disk = record { long = (at-2 l).pre.0; whole = whole (else-1 l) }; sound = (says-sound diskTable disk).0 sound-here }
+  holds = record { disk = record { long = (at-2 l).pre.0; whole = whole (else-1 l) }; sound = (says_sound disk_table disk).0 sound-here }
 
 -- ---- the needs
 
@@ -56,7 +56,7 @@ returns : tie.Need-returns
 returns c =
     let e = c.before.before.refuse.ensures in
     let s = c.before.before.before.before.before.before.before.before.before.before.args in
-    serve-undecoded s.part.now (call_of s.r.now) (sym c.before.before.before.before.before.decodes.ensures ∙ not-true _ c.before.before.before.before.if1.true) e.0 e.1
+    serve_undecoded s.part.now (call_of s.r.now) (sym c.before.before.before.before.before.decodes.ensures ∙ not-true _ c.before.before.before.before.if1.true) e.0 e.1
 
 is-sound-requires : tie.Need-is-sound-requires
 is-sound-requires c κs = record { long = (at_1 c.before).requires.0; whole = whole c.before }
@@ -66,7 +66,7 @@ returns-2 c =
     let e = c.before.before.refuse2.ensures in
     let l = c.before.before.before.before.before.before.before.before in
     let s = (at_1 l).args in
-    serve-unsound s.part.now (whole l) {d = decode s.part.now} refl (call_of s.r.now)
+    serve_unsound s.part.now (whole l) {d = decode s.part.now} refl (call_of s.r.now)
     (sym (ok-is (held s.part.now) c.before.before.before.before.before.before.is-sound.ensures) ∙ not-true _ c.before.before.before.before.if2.true) e.0 e.1
 
 serve-claim-requires : tie.Need-serve-claim-requires
@@ -75,7 +75,7 @@ serve-claim-requires c κs =
     let s = at-2 l in (
       holds l,
       (
-        asked-new s.args.r.now c.before.before.before.before.asked_in.ensures (disk l) c.before.before.before.before.before.next-at.ensures,
+        asked_new s.args.r.now c.before.before.before.before.asked_in.ensures (disk l) c.before.before.before.before.before.next-at.ensures,
         (s.pre.1.1, totals-are (disk l) l.before.before.is-sound.ensures (sound-here l)),
       ),
     )
@@ -84,8 +84,8 @@ returns-3 : tie.Need-returns-3
 returns-3 c =
     let l = c.before.before.before.before.before.before.before.before.before.before.before.before.before.before in
     let s = (at-2 l).args in
-    serve-claims s.part.now (whole (else-1 l)) {d = decode s.part.now} refl (sound-here l) s.r.now
-    (asked-request s.r.now c.before.before.before.before.before.before.before.before.before.asked_in.ensures c.before.before.before.before.before.before.word_at.ensures) c.before.before.before.before.before.before.before.before.before.before.before.before.if3.true c.before.before.before.before.serve-claim.ensures
+    serve_claims s.part.now (whole (else-1 l)) {d = decode s.part.now} refl (sound-here l) s.r.now
+    (asked_request s.r.now c.before.before.before.before.before.before.before.before.before.asked_in.ensures c.before.before.before.before.before.before.word_at.ensures) c.before.before.before.before.before.before.before.before.before.before.before.before.if3.true c.before.before.before.before.serve-claim.ensures
 
 serve-release-requires : tie.Need-serve-release-requires
 serve-release-requires c κs = let l = c.before.before.before.before.before.before in (holds l, (at-2 l).requires.1.1)
@@ -94,7 +94,7 @@ returns-4 : tie.Need-returns-4
 returns-4 c =
     let l = c.before.before.before.before.before.before.before.before.before.before.before in
     let s = (at-2 l).args in
-    serve-releases s.part.now (whole (else-1 l)) {d = decode s.part.now} refl (sound-here l) s.r.now
+    serve_releases s.part.now (whole (else-1 l)) {d = decode s.part.now} refl (sound-here l) s.r.now
     c.before.before.before.before.before.before.before.word-at2.ensures c.before.before.before.before.before.before.word-at3.ensures c.before.before.before.before.before.before.before.before.before.if3.false c.before.before.before.before.serve-release.ensures
 
 pub serve-spec : {M : Type 1} → statement M

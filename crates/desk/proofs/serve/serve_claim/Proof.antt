@@ -16,22 +16,22 @@ use Rattle.num.specs.Metric.{size}
 use Rattle.law.specs.declared.Claim.{Claim}
 use Rattle.law.specs.Types.{Disk as LawDisk, Item, Outcome, accepted}
 use Rattle.law.specs.Entries.{kind_of}
-use Rattle.law.specs.Granting.{toldBy, grantItem}
+use Rattle.law.specs.Granting.{told_by, grant_item}
 use Rattle.law.specs.Calls.{item, claim}
-use Rattle.law.specs.DiskType.{diskTable}
+use Rattle.law.specs.DiskType.{disk_table}
 use Rattle.answer.specs.contracts.Answer.{the_type}
 use Rattle.answer.specs.declared.Answer.{Answer}
 use Rattle.answer.specs.declared.Answer.TheVariants as A
 use Rattle.answer.specs.Answers.{code_of}
 use Rattle.rules.specs.declared.disk.Disk.{Disk}
-use Rattle.rules.specs.Disks.{figuresIn, diskOf, ToldFits}
-use Rattle.rules.specs.Answers.{requestOf, coreAt, grantedOf, waitingOf}
-use Rattle.rules.proofs.CallLaws.{Says, answer-says, IsGranted, IsWaiting, IsRefused}
-use Rattle.part.specs.Held.{partFor}
+use Rattle.rules.specs.Disks.{figures_in, disk_of, ToldFits}
+use Rattle.rules.specs.Answers.{request_of, core_at, granted_of, waiting_of}
+use Rattle.rules.proofs.CallLaws.{Says, answer_says, IsGranted, IsWaiting, IsRefused}
+use Rattle.part.specs.Held.{part_for}
 use Rattle.part.specs.Layout.{decode}
-use Rattle.part.specs.PartLaws.{disk-good}
+use Rattle.part.specs.PartLaws.{disk_good}
 use Rattle.desk.specs.Step.{settled, stepped, written}
-use Rattle.desk.proofs.ServeLaws.{claim-refused, claim-accepted}
+use Rattle.desk.proofs.ServeLaws.{claim_refused, claim_accepted}
 use Rattle.desk.proofs.serve.serve_claim.Statement.{statement}
 use Rattle.desk.proofs.serve.serve_claim.Tie as tie
 
@@ -45,14 +45,14 @@ module _ (b : tie.After-slice-known3) where
   disk = decode start.args.part.now
 
   abbrev law : Outcome
-  law = claim diskTable (diskOf disk) (requestOf start.args.second start.args.c)
+  law = claim disk_table (disk_of disk) (request_of start.args.second start.args.c)
 
   abbrev own : Answer
   own = b.before.before.before.before.judged.result
 
   says : {a : Answer} → own ≡ a → Says disk start.args.second start.args.c law a
   says e =
-      answer-says disk start.args.second start.args.c start.pre.1.0 (disk-good start.pre.0.disk) start.pre.0.sound (sym e ∙ b.before.before.before.before.judged.ensures)
+      answer_says disk start.args.second start.args.c start.pre.1.0 (disk_good start.pre.0.disk) start.pre.0.sound (sym e ∙ b.before.before.before.before.judged.ensures)
 
   -- The call ends with the answer in the buffer, and with the part q.
   module _ {n : ℕ} {x : Answer} (code : n ≡ code_of x) (same : x ≡ own) (q : List ℕ) where
@@ -61,18 +61,18 @@ module _ (b : tie.After-slice-known3) where
 
     refused-ends : IsRefused law → q ≡ start.args.part.now → Ends
     refused-ends r e =
-        claim-refused start.args.part.now law b.before.before.before.before.judged.ensures (code ∙ ap code_of same) b.before.before.put-answer.ensures r.number r.is e
+        claim_refused start.args.part.now law b.before.before.before.before.judged.ensures (code ∙ ap code_of same) b.before.before.put-answer.ensures r.number r.is e
 
-    accepted-ends : (d : LawDisk) (i : Item) → law ≡ accepted d (i ∷ []) → q ≡ partFor d → Ends
+    accepted-ends : (d : LawDisk) (i : Item) → law ≡ accepted d (i ∷ []) → q ≡ part_for d → Ends
     accepted-ends d i k e =
-        claim-accepted start.args.part.now law b.before.before.before.before.judged.ensures (code ∙ ap code_of same) b.before.before.put-answer.ensures d i k e
+        claim_accepted start.args.part.now law b.before.before.before.before.judged.ensures (code ∙ ap code_of same) b.before.before.put-answer.ensures d i k e
 
 granted : (b : tie.After-slice-known3) {t m : ℕ} {z : ℤ} → own b ≡ A.Granted t z m →
     IsGranted (disk b) (start b).args.second (start b).args.c z m (law b)
 granted b e = says b e
 
 -- What is told fits 32 bits.
-told_back : (d : Disk) (c : Claim) {z : ℤ} → ToldFits d c → z ≡ toldBy (figuresIn d) (kind_of diskTable c) → to_z w32 (of_z w32 z) ≡ z
+told_back : (d : Disk) (c : Claim) {z : ℤ} → ToldFits d c → z ≡ told_by (figures_in d) (kind_of disk_table c) → to_z w32 (of_z w32 z) ≡ z
 told_back d c {z} h e = to_z-of_z (size_fits w32 z (omega (arith, ap size e, h)))
 
 -- Of five variants the first two are Granted and Waits.
@@ -117,11 +117,11 @@ returns c =
     ⊎_elim
     (λ w.
     let g = granted b w.1.given.1 in
-    accepted-ends b c.code.ensures (w.8 ∙ sym w.1.given.1) c.before.match.part (grantedOf (diskOf (disk b)) s.args.second s.args.c) (grantItem diskTable (coreAt (disk b) s.args.second) s.args.c) g.is (w.7 ∙ w.4.ensures))
+    accepted-ends b c.code.ensures (w.8 ∙ sym w.1.given.1) c.before.match.part (granted_of (disk_of (disk b)) s.args.second s.args.c) (grant_item disk_table (core_at (disk b) s.args.second) s.args.c) g.is (w.7 ∙ w.4.ensures))
     (⊎_elim
     (λ w.
     let g : IsWaiting (disk b) s.args.second s.args.c (law b) = says b w.1.given.1 in
-    accepted-ends b c.code.ensures w.7 c.before.match.part (waitingOf (diskOf (disk b)) s.args.second s.args.c) (item 1 s.args.c.ticket) g.is (w.6 ∙ w.3.ensures))
+    accepted-ends b c.code.ensures w.7 c.before.match.part (waiting_of (disk_of (disk b)) s.args.second s.args.c) (item 1 s.args.c.ticket) g.is (w.6 ∙ w.3.ensures))
     (λ w. refused-ends b c.code.ensures w.2 c.before.match.part (refuses b (own b) refl w.0.keys3) w.1))
     c.before.match.branch
 

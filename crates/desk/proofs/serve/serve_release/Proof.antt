@@ -8,19 +8,19 @@ use lib.ListN.{length}
 use Rattle.law.specs.Types.{Disk as LawDisk}
 use Rattle.law.specs.Calls.{release}
 use Rattle.law.specs.Sound.{Sound}
-use Rattle.law.specs.DiskType.{diskTable}
+use Rattle.law.specs.DiskType.{disk_table}
 use Rattle.rules.specs.Rows.{place_of}
-use Rattle.rules.specs.RowLaws.{row-length}
+use Rattle.rules.specs.RowLaws.{row_length}
 use Rattle.rules.specs.declared.disk.Disk.{Disk}
-use Rattle.rules.specs.Answers.{endedAt, left_at}
+use Rattle.rules.specs.Answers.{ended_at, left_at}
 use Rattle.rules.specs.Disks.{Good}
 use Rattle.part.specs.Layout.{decode}
 use Rattle.part.specs.Held.{held}
-use Rattle.part.specs.PartLaws.{disk-good}
-use Rattle.answer.specs.Answers.{refusalOf}
+use Rattle.part.specs.PartLaws.{disk_good}
+use Rattle.answer.specs.Answers.{refusal_of}
 use Rattle.desk.specs.Step.{released}
-use Rattle.desk.proofs.ReleaseLaws.{release-early, release-active, sound-active, release-waiting, sound-waiting, release-lost}
-use Rattle.desk.proofs.ServeLaws.{step-refused, made, settle_as}
+use Rattle.desk.proofs.ReleaseLaws.{release_early, release_active, sound_active, release_waiting, sound_waiting, release_lost}
+use Rattle.desk.proofs.ServeLaws.{step_refused, made, settle_as}
 use Rattle.desk.proofs.serve.serve_release.Statement.{statement}
 use Rattle.desk.proofs.serve.serve_release.Tie as tie
 
@@ -53,7 +53,7 @@ abbrev law : tie.Start → LawDisk
 law k = held k.args.part.now
 
 good : (k : tie.Start) → Good (disk k)
-good k = disk-good k.requires.0.disk
+good k = disk_good k.requires.0.disk
 
 -- It is not early.
 late : (l : tie.Else1) → (disk (at_1 l)).clock ≤ (at_1 l).args.second
@@ -75,26 +75,26 @@ module _ (b : tie.Then2) where
   here = omega (arith, b.if2.taken, b.before.actives-at.ensures)
 
   there : at < length (law start).core.active
-  there = omega (arith, here, row-length (good start).active)
+  there = omega (arith, here, row_length (good start).active)
 
   -- What is left is sound, and its pass is that of the release.
   abbrev pub ended : LawDisk
-  ended = endedAt (law start) start.args.second at
+  ended = ended_at (law start) start.args.second at
 
   pub clock-ended : ended.core.clock < 4294967296
-  unfolding endedAt
+  unfolding ended_at
   clock-ended = omega (arith, start.fits.second)
 
-  pub sound-ended : Sound diskTable ended
-  sound-ended = sound-active (law start) start.args.second start.args.ticket (late (else-1 b.before)) at (place b.before) there start.pre.0.sound
+  pub sound-ended : Sound disk_table ended
+  sound-ended = sound_active (law start) start.args.second start.args.ticket (late (else-1 b.before)) at (place b.before) there start.pre.0.sound
 
-  pub release-ended : release diskTable (law start) start.args.second start.args.ticket ≡ released ended start.args.ticket
-  release-ended = release-active (law start) start.args.second start.args.ticket (late (else-1 b.before)) at (place b.before) there start.pre.0.sound
+  pub release-ended : release disk_table (law start) start.args.second start.args.ticket ≡ released ended start.args.ticket
+  release-ended = release_active (law start) start.args.second start.args.ticket (late (else-1 b.before)) at (place b.before) there start.pre.0.sound
 
 -- ---- none of them has it
 
 none : (l : tie.Else2) → let k = at_count l.before in length (law k).core.active ≤ place_of k.args.ticket (law k).core.active
-none l = omega (arith, l.if2.false, l.before.actives-at.ensures, place l.before, row-length (good (at_count l.before)).active)
+none l = omega (arith, l.if2.false, l.before.actives-at.ensures, place l.before, row_length (good (at_count l.before)).active)
 
 -- ---- among the waiting claims
 
@@ -118,26 +118,26 @@ module _ (b : tie.Then3) where
   unfolding left_at
   clock-left = omega (arith, start-2.fits.second)
 
-  pub sound-left : Sound diskTable left
+  pub sound-left : Sound disk_table left
   sound-left =
-      sound-waiting (law start-2) start-2.args.second start-2.args.ticket (late (else-1 (else-2 b.before).before)) (none (else-2 b.before)) at-2 (place-2 b.before)
+      sound_waiting (law start-2) start-2.args.second start-2.args.ticket (late (else-1 (else-2 b.before).before)) (none (else-2 b.before)) at-2 (place-2 b.before)
       start-2.pre.0.sound
 
-  pub release-left : release diskTable (law start-2) start-2.args.second start-2.args.ticket ≡ released left start-2.args.ticket
+  pub release-left : release disk_table (law start-2) start-2.args.second start-2.args.ticket ≡ released left start-2.args.ticket
   release-left =
-      release-waiting (law start-2) start-2.args.second start-2.args.ticket (late (else-1 (else-2 b.before).before)) (none (else-2 b.before)) at-2 (place-2 b.before)
-      (omega (arith, here-2, row-length (good start-2).waiting))
+      release_waiting (law start-2) start-2.args.second start-2.args.ticket (late (else-1 (else-2 b.before).before)) (none (else-2 b.before)) at-2 (place-2 b.before)
+      (omega (arith, here-2, row_length (good start-2).waiting))
 
 -- ---- the needs
 
 returns : tie.Need-returns
-unfolding refusalOf
+unfolding refusal_of
 returns c =
     let t = c.before.before.before.before in
     let k = at-clock t.before in
     let e = c.before.before.refuse.ensures in
-    step-refused k.args.part.now 15
-    (release-early (law k) k.args.second k.args.ticket (omega (arith, t.if1.true, t.before.clock-at.ensures))) e.0 e.1
+    step_refused k.args.part.now 15
+    (release_early (law k) k.args.second k.args.ticket (omega (arith, t.if1.true, t.before.clock-at.ensures))) e.0 e.1
 
 end-requires : tie.Need-end-requires
 end-requires c κs = ((start c.before).pre.0, here c.before)
@@ -176,15 +176,15 @@ returns-3 c =
     settle_as (left b) (sound-left b) (clock-left b) e.leave.ensures k.args.part.now k.args.ticket (release-left b) z.settle2.ensures
 
 returns-4 : tie.Need-returns-4
-unfolding refusalOf
+unfolding refusal_of
 returns-4 c =
     let t = c.before.before.before.before in
     let w = t.before in
     let k = at-line w in
     let e = c.before.before.refuse2.ensures in
-    step-refused k.args.part.now 21
-    (release-lost (law k) k.args.second k.args.ticket (late (else-1 (else-2 w).before)) (none (else-2 w))
-    (omega (arith, t.if3.false, w.waitings-at.ensures, place-2 w, row-length (good k).waiting)))
+    step_refused k.args.part.now 21
+    (release_lost (law k) k.args.second k.args.ticket (late (else-1 (else-2 w).before)) (none (else-2 w))
+    (omega (arith, t.if3.false, w.waitings-at.ensures, place-2 w, row_length (good k).waiting)))
     e.0 e.1
 
 pub serve-release-spec : {M : Type 1} → statement M

@@ -7,24 +7,24 @@ use native.Mathlib.Omega.{arith}
 use lib.ListN.{length, take, drop, get_or}
 use Rattle.law.specs.declared.Claim.{Claim}
 use Rattle.law.specs.Base.{any_of}
-use Rattle.law.specs.DiskType.{diskEntries}
+use Rattle.law.specs.DiskType.{disk_entries}
 use Rattle.law.specs.Types.{Figures}
-use Rattle.rules.specs.Rows.{noClaim}
-use Rattle.rules.specs.Methods.{figuresOf}
+use Rattle.rules.specs.Rows.{no_claim}
+use Rattle.rules.specs.Methods.{figures_of}
 use Rattle.rules.proofs.EntryLaws.{found_at}
 use Rattle.rules.specs.declared.disk.Disk.{Disk}
-use Rattle.rules.specs.Disks.{figuresIn}
+use Rattle.rules.specs.Disks.{figures_in}
 use Rattle.part.specs.Layout.{decode}
-use Rattle.part.specs.PartLaws.{disk-good}
-use Rattle.judge.specs.Decisions.{barsAt}
-use Rattle.judge.proofs.WalkLaws.{bars-at, first-any-on, first-any-here, first-any-end}
+use Rattle.part.specs.PartLaws.{disk_good}
+use Rattle.judge.specs.Decisions.{bars_at}
+use Rattle.judge.proofs.WalkLaws.{bars_at_lem, first_any_on, first_any_here, first_any_end}
 use Rattle.judge.proofs.decision.barred.Statement.{statement}
 use Rattle.judge.proofs.decision.barred.Tie as tie
 
 abbrev invariant-loop : tie.invariant-loop
 invariant-loop s ahead c second adds table used promised state m col j₀ j =
-    any_of (barsAt (figuresOf used promised state) second adds c.priority m) (drop j (take ahead (decode s).waiting))
-    ≡ any_of (barsAt (figuresOf used promised state) second adds c.priority m) (take ahead (decode s).waiting)
+    any_of (bars_at (figures_of used promised state) second adds c.priority m) (drop j (take ahead (decode s).waiting))
+    ≡ any_of (bars_at (figures_of used promised state) second adds c.priority m) (take ahead (decode s).waiting)
 
 abbrev decreases-loop : tie.decreases-loop
 decreases-loop s ahead c second adds table used promised state m col j₀ j = ahead - j
@@ -33,7 +33,7 @@ decreases-loop s ahead c second adds table used promised state m col j₀ j = ah
 returns : tie.Need-returns invariant-loop decreases-loop
 returns c =
     let a = c.before.before.args in
-    ap (λ (n : ℕ). any_of (barsAt (figuresIn (decode a.s.now)) a.second a.adds a.c.priority a.c.method) (take n (decode a.s.now).waiting)) (sym c.if1.true)
+    ap (λ (n : ℕ). any_of (bars_at (figures_in (decode a.s.now)) a.second a.adds a.c.priority a.c.method) (take n (decode a.s.now).waiting)) (sym c.if1.true)
 
 -- ---- what has been read before the walk
 
@@ -47,21 +47,21 @@ abbrev disk : Read → Disk
 disk i = decode (start i).args.s.now
 
 abbrev figures : Read → Figures
-figures i = figuresOf i.before.before.before.used-at.result i.before.before.promised-at.result i.before.state-at.result
+figures i = figures_of i.before.before.before.used-at.result i.before.before.promised-at.result i.before.state-at.result
 
 room : (i : Read) → (start i).args.ahead ≤ length (disk i).waiting
-room i = omega (arith, (start i).pre.1.0, (disk-good (start i).pre.0).waiting.room)
+room i = omega (arith, (start i).pre.1.0, (disk_good (start i).pre.0).waiting.room)
 
 -- The test that the walk makes of a waiting claim, and the same by the disk's figures.
 abbrev barring : Read → Claim → Bool
-barring i = barsAt (figures i) (start i).args.second (start i).args.adds (start i).args.c.priority (start i).args.c.method
+barring i = bars_at (figures i) (start i).args.second (start i).args.adds (start i).args.c.priority (start i).args.c.method
 
 by-disk : (i : Read) →
     any_of (barring i) (take (start i).args.ahead (disk i).waiting)
-    ≡ any_of (barsAt (figuresIn (disk i)) (start i).args.second (start i).args.adds (start i).args.c.priority (start i).args.c.method) (take (start i).args.ahead (disk i).waiting)
+    ≡ any_of (bars_at (figures_in (disk i)) (start i).args.second (start i).args.adds (start i).args.c.priority (start i).args.c.method) (take (start i).args.ahead (disk i).waiting)
 by-disk i j =
     any_of
-    (barsAt (figuresOf (i.before.before.before.used-at.ensures j) (i.before.before.promised-at.ensures j) (i.before.state-at.ensures j))
+    (bars_at (figures_of (i.before.before.before.used-at.ensures j) (i.before.before.promised-at.ensures j) (i.before.state-at.ensures j))
     (start i).args.second (start i).args.adds (start i).args.c.priority (start i).args.c.method)
     (take (start i).args.ahead (disk i).waiting)
 
@@ -81,7 +81,7 @@ index-2-found : tie.Need-bounds-2-found invariant-loop decreases-loop
 index-2-found c = c.before.before.before.before.index_of.ensures.1
 
 entry-requires : tie.Need-entry-requires invariant-loop decreases-loop
-unfolding diskEntries
+unfolding disk_entries
 entry-requires c κs =
     let k = c.before in
     let i = k.before.before.before.before in
@@ -93,14 +93,14 @@ bars-requires c κs = omega (arith, (start c.before.before.before.before.before.
 
 bars-there : (b : tie.After-bars invariant-loop decreases-loop) →
     let l = b.before.before.before.before.before.before in
-    barring l.before (get_or (disk l.before).waiting l.loop.j noClaim) ≡ b.bars.result
+    barring l.before (get_or (disk l.before).waiting l.loop.j no_claim) ≡ b.bars.result
 bars-there b =
     let l = b.before.before.before.before.before.before in
     let i = l.before in
     let a = (start i).args in
     let w = b.before.before.before.before.waiting-at in
     sym (ap (barring i) w.ensures)
-    ∙ sym (bars-at (figures i) a.second a.adds a.c.priority a.c.method w.result b.before.entry.ensures b.bars.ensures)
+    ∙ sym (bars_at_lem (figures i) a.second a.adds a.c.priority a.c.method w.result b.before.entry.ensures b.bars.ensures)
 
 returns-2 : tie.Need-returns-2 invariant-loop decreases-loop
 returns-2 c =
@@ -108,7 +108,7 @@ returns-2 c =
     let t = b.before.before.before.before.before in
     let l = t.before in
     let i = l.before in
-    first-any-here (disk i).waiting (start i).args.ahead (room i) (barring i) l.loop.j t.loop-test.true (bars-there b ∙ c.if2.true)
+    first_any_here (disk i).waiting (start i).args.ahead (room i) (barring i) l.loop.j t.loop-test.true (bars-there b ∙ c.if2.true)
     ∙ l.loop.invariant
     ∙ by-disk i
 
@@ -123,14 +123,14 @@ loop-again c =
     let t = b.before.before.before.before.before in
     let l = t.before in
     let i = l.before in
-    first-any-on (disk i).waiting (start i).args.ahead (room i) (barring i) l.loop.j t.loop-test.true (bars-there b ∙ c.if2.false)
+    first_any_on (disk i).waiting (start i).args.ahead (room i) (barring i) l.loop.j t.loop-test.true (bars-there b ∙ c.if2.false)
     ∙ l.loop.invariant
 
 returns-3 : tie.Need-returns-3 invariant-loop decreases-loop
 returns-3 c =
     let l = c.before in
     let i = l.before in
-    first-any-end (disk i).waiting (start i).args.ahead (room i) (barring i) l.loop.j c.loop-test.false
+    first_any_end (disk i).waiting (start i).args.ahead (room i) (barring i) l.loop.j c.loop-test.false
     ∙ l.loop.invariant
     ∙ by-disk i
 

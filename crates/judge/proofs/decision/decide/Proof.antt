@@ -13,20 +13,20 @@ use Rattle.law.specs.Base.{any_of}
 use Rattle.law.specs.Lists.{never_true}
 use Rattle.law.specs.Types.{a1, Figures}
 use Rattle.law.specs.Entries.{kind_of}
-use Rattle.law.specs.Granting.{addsOn, start_by, limitBy, total, lockStep, granted}
-use Rattle.law.specs.DiskType.{diskTable}
-use Rattle.rules.specs.RowLaws.{row-length}
-use Rattle.rules.specs.Methods.{figuresOf, preOf}
+use Rattle.law.specs.Granting.{adds_on, start_by, limit_by, total, lock_step, granted}
+use Rattle.law.specs.DiskType.{disk_table}
+use Rattle.rules.specs.RowLaws.{row_length}
+use Rattle.rules.specs.Methods.{figures_of, pre_of}
 use Rattle.rules.specs.declared.totals.Totals.{Totals}
-use Rattle.rules.specs.Pairs.{core_of, addOf}
+use Rattle.rules.specs.Pairs.{core_of, add_of}
 use Rattle.rules.proofs.TotalsLaws.{sum_is}
 use Rattle.rules.specs.declared.disk.Disk.{Disk}
-use Rattle.rules.specs.Disks.{figuresIn}
+use Rattle.rules.specs.Disks.{figures_in}
 use Rattle.part.specs.Layout.{decode}
-use Rattle.part.specs.PartLaws.{disk-good, adds-most}
-use Rattle.judge.specs.Decisions.{barsOf, activesIn, DecidedIs}
-use Rattle.judge.proofs.WalkLaws.{lock-not, lock-all, total-is}
-use Rattle.judge.proofs.DecideLaws.{not-fit, not_free, not-locked, full-waits, all-else, same_total, refusal}
+use Rattle.part.specs.PartLaws.{disk_good, adds_most}
+use Rattle.judge.specs.Decisions.{bars_of, actives_in, DecidedIs}
+use Rattle.judge.proofs.WalkLaws.{lock_not, lock_all, total_is}
+use Rattle.judge.proofs.DecideLaws.{not_fit, not_free, not_locked, full_waits, all_else, same_total, refusal}
 use Rattle.judge.proofs.decision.decide.Statement.{statement}
 use Rattle.judge.proofs.decision.decide.Tie as tie
 
@@ -72,10 +72,10 @@ module _ (k : Start) where
   d = decode k.args.s.now
 
   abbrev f : Figures
-  f = figuresIn d
+  f = figures_in d
 
   abbrev ws : List Claim
-  ws = activesIn d
+  ws = actives_in d
 
   abbrev ahead : List Claim
   ahead = take k.args.ahead d.waiting
@@ -83,45 +83,45 @@ module _ (k : Start) where
   abbrev q : Claim
   q = k.args.c
 
-  sum-law : k.args.t.sum ≡ addsOn diskTable a1 ws
-  unfolding addOf
+  sum-law : k.args.t.sum ≡ adds_on disk_table a1 ws
+  unfolding add_of
   sum-law = ap (λ (t : Totals). t.sum) k.pre.1.1 ∙ sum_is ws
 
   abbrev Fits : Type 0
-  Fits = preOf f k.args.second k.args.t.sum q ≡ true
+  Fits = pre_of f k.args.second k.args.t.sum q ≡ true
 
   abbrev Free : Type 0
-  Free = any_of (barsOf f k.args.second k.args.t.sum q) ahead ≡ false
+  Free = any_of (bars_of f k.args.second k.args.t.sum q) ahead ≡ false
 
   -- A claim that is not granted.
   abbrev Refused : Type 0
   Refused = DecidedIs false 0 (core_of f k.args.second ws) ahead q
 
-  refused : false ≡ granted diskTable (core_of f k.args.second ws) ahead q → Refused
+  refused : false ≡ granted disk_table (core_of f k.args.second ws) ahead q → Refused
   refused h = refusal f k.args.second ws ahead q h
 
 small : (r : tie.After-state-at) → (at_read r).args.t.sum ≤ 17_179_869_184
 small r =
     let k = at_read r in
-    omega (arith, ap (λ (t : Totals). t.sum) k.pre.1.1 ∙ sum_is (ws k), adds-most (λ i. ((counted r).before.shared-slice-known.given i).fits) k.pre.0)
+    omega (arith, ap (λ (t : Totals). t.sum) k.pre.1.1 ∙ sum_is (ws k), adds_most (λ i. ((counted r).before.shared-slice-known.given i).fits) k.pre.0)
 
 -- ---- the place
 
-count-is : (w : tie.After-actives-at) → w.actives-at.result ≡ length (ws (at_place w))
-count-is w = w.actives-at.ensures ∙ sym (row-length (disk-good (at_place w).requires.0).active)
+count_is : (w : tie.After-actives-at) → w.actives-at.result ≡ length (ws (at_place w))
+count_is w = w.actives-at.ensures ∙ sym (row_length (disk_good (at_place w).requires.0).active)
 
 returns : tie.Need-returns
 returns c =
     let k = at_place c.before in
-    refused k (full-waits (f k) k.args.second (ws k) (ahead k) (q k) (omega (arith, count-is c.before, c.if1.true)))
+    refused k (full_waits (f k) k.args.second (ws k) (ahead k) (q k) (omega (arith, count_is c.before, c.if1.true)))
 
 placed : (r : tie.After-state-at) → length (ws (at_read r)) < 8
-placed r = omega (arith, count-is (counted r), r.before.before.before.if1.false)
+placed r = omega (arith, count_is (counted r), r.before.before.before.if1.false)
 
 -- What is asked of the figures read is asked of the disk's.
 by-disk : {X : Type 0} (r : tie.After-state-at) (g : Figures → X) →
-    g (figuresOf r.before.before.used-at.result r.before.promised-at.result r.state-at.result) ≡ g (f (at_read r))
-by-disk r g j = g (figuresOf (r.before.before.used-at.ensures j) (r.before.promised-at.ensures j) (r.state-at.ensures j))
+    g (figures_of r.before.before.used-at.result r.before.promised-at.result r.state-at.result) ≡ g (f (at_read r))
+by-disk r g j = g (figures_of (r.before.before.used-at.ensures j) (r.before.promised-at.ensures j) (r.state-at.ensures j))
 
 -- ---- preconditions
 
@@ -129,16 +129,16 @@ preconditions-requires : tie.Need-preconditions-requires
 preconditions-requires c κs = omega (arith, small c)
 
 pre_is : (p : tie.After-preconditions) → let k = at_read p.before in
-    p.preconditions.result ≡ preOf (f k) k.args.second k.args.t.sum (q k)
+    p.preconditions.result ≡ pre_of (f k) k.args.second k.args.t.sum (q k)
 pre_is p =
     let k = at_read p.before in
-    p.preconditions.ensures ∙ by-disk p.before (λ g. preOf g k.args.second k.args.t.sum (q k))
+    p.preconditions.ensures ∙ by-disk p.before (λ g. pre_of g k.args.second k.args.t.sum (q k))
 
 returns-2 : tie.Need-returns-2
 returns-2 c =
     let k = at_read c.before.before in
     refused k
-    (not-fit (f k) k.args.second (ws k) (ahead k) (q k) (sum-law k)
+    (not_fit (f k) k.args.second (ws k) (ahead k) (q k) (sum-law k)
     (sym (pre_is c.before) ∙ not-true c.before.preconditions.result c.if2.true))
 
 fits : (l : tie.Else2) → Fits (at-2 l)
@@ -165,16 +165,16 @@ lock-step-requires : tie.Need-lock-step-requires
 lock-step-requires c κs = let k = at-3 c in (k.pre.0, k.pre.1.1)
 
 -- The lock step stops the claim.
-stopped : (l : tie.After-lock-step) → lockStep diskTable (core_of (f (at-lock l)) 0 (ws (at-lock l))) (q (at-lock l)) ≡ false → Refused (at-lock l)
+stopped : (l : tie.After-lock-step) → lock_step disk_table (core_of (f (at-lock l)) 0 (ws (at-lock l))) (q (at-lock l)) ≡ false → Refused (at-lock l)
 stopped l h =
     let k = at-lock l in
-    refused k (not-locked (f k) k.args.second (ws k) (ahead k) (q k) (sum-law k) (fits (else-3 l.before)) (free l.before) h)
+    refused k (not_locked (f k) k.args.second (ws k) (ahead k) (q k) (sum-law k) (fits (else-3 l.before)) (free l.before) h)
 
 returns-4 : tie.Need-returns-4
 returns-4 c =
     let l = c.before.before in
     let k = at-lock l in
-    stopped l (sym (lock-not (f k) (q k) (ws k) (sym (not-true l.lock-step.result.ok c.if4.true) ∙ l.lock-step.ensures.0)))
+    stopped l (sym (lock_not (f k) (q k) (ws k) (sym (not-true l.lock-step.result.ok c.if4.true) ∙ l.lock-step.ensures.0)))
 
 add_total : tie.Need-overflow-add-total
 add_total c =
@@ -184,19 +184,19 @@ add_total c =
 whole : (t : tie.After-start) →
     let k = at-start t in
     let sum = t.start.result + (locked t).lock-step.result.sum in
-    (sum ≡ total diskTable (core_of (f k) 0 (ws k)) (q k))
-    × (leb sum t.before.limit.result ≡ lockStep diskTable (core_of (f k) 0 (ws k)) (q k))
+    (sum ≡ total disk_table (core_of (f k) 0 (ws k)) (q k))
+    × (leb sum t.before.limit.result ≡ lock_step disk_table (core_of (f k) 0 (ws k)) (q k))
 whole t =
     let l = locked t in
     let k = at-start t in
     let r = read-2 (else-3 l.before) in
     let pass = not-false l.lock-step.result.ok t.before.before.if4.false in
-    let e : t.start.result + l.lock-step.result.sum ≡ total diskTable (core_of (f k) 0 (ws k)) (q k) =
-    (λ j. (t.start.ensures.0 ∙ by-disk r (λ g. start_by g (kind_of diskTable (q k)) (q k).error)) j + l.lock-step.ensures.1.0 pass j)
-    ∙ total-is (f k) (q k) (ws k) in (
+    let e : t.start.result + l.lock-step.result.sum ≡ total disk_table (core_of (f k) 0 (ws k)) (q k) =
+    (λ j. (t.start.ensures.0 ∙ by-disk r (λ g. start_by g (kind_of disk_table (q k)) (q k).error)) j + l.lock-step.ensures.1.0 pass j)
+    ∙ total_is (f k) (q k) (ws k) in (
       e,
-      (λ j. leb (e j) ((t.before.limit.ensures ∙ by-disk r (λ g. limitBy g (kind_of diskTable (q k)) (q k).error)) j))
-          ∙ lock-all (f k) (q k) (ws k) (sym pass ∙ l.lock-step.ensures.0),
+      (λ j. leb (e j) ((t.before.limit.ensures ∙ by-disk r (λ g. limit_by g (kind_of disk_table (q k)) (q k).error)) j))
+          ∙ lock_all (f k) (q k) (ws k) (sym pass ∙ l.lock-step.ensures.0),
     )
 
 returns-5 : tie.Need-returns-5
@@ -208,7 +208,7 @@ returns-5 c =
       says =
           sym (le-leb _ _ c.if5.true)
           ∙ (whole t).1
-          ∙ all-else (f k) k.args.second (ws k) (ahead k) (q k) (sum-law k) (fits (else-3 l)) (free l) (placed (read-2 (else-3 l)));
+          ∙ all_else (f k) k.args.second (ws k) (ahead k) (q k) (sum-law k) (fits (else-3 l)) (free l) (placed (read-2 (else-3 l)));
       counts = λ h. (whole t).0 ∙ same_total (f k) k.args.second (ws k) (ahead k) (q k);
       fails = λ (h : true ≡ false). never_true (t.start.result + (locked t).lock-step.result.sum ≡ 0) (sym h);
     }

@@ -9,22 +9,22 @@ use mathlib.Core.Path.{◌≡◌, refl, sym, ap, ◌∙◌}
 use native.Mathlib.Omega.{arith}
 use lib.ListN.{take, drop, get_or}
 use Rattle.law.specs.declared.Claim.{Claim}
-use Rattle.law.specs.Base.{everyOf, sum_of}
+use Rattle.law.specs.Base.{every_of, sum_of}
 use Rattle.law.specs.Lists.{never_true}
-use Rattle.law.specs.DiskType.{diskEntries}
+use Rattle.law.specs.DiskType.{disk_entries}
 use Rattle.law.specs.Types.{Figures}
-use Rattle.rules.specs.Rows.{Row, noClaim}
-use Rattle.rules.specs.RowLaws.{sum-turn, sum-end, every-on, every-not, every-end}
+use Rattle.rules.specs.Rows.{Row, no_claim}
+use Rattle.rules.specs.RowLaws.{sum_turn, sum_end, every_on, every_not, every_end}
 use Rattle.rules.specs.declared.totals.Totals.{Totals}
-use Rattle.rules.specs.Totals.{totalsOf, haveSay}
-use Rattle.rules.specs.Methods.{figuresOf}
+use Rattle.rules.specs.Totals.{totals_of, have_say}
+use Rattle.rules.specs.Methods.{figures_of}
 use Rattle.rules.proofs.EntryLaws.{found_at}
 use Rattle.rules.specs.declared.disk.Disk.{Disk}
-use Rattle.rules.specs.Disks.{figuresIn}
+use Rattle.rules.specs.Disks.{figures_in}
 use Rattle.part.specs.Layout.{decode}
-use Rattle.part.specs.PartLaws.{active-row}
-use Rattle.judge.specs.Decisions.{letsOf, costOf, activesIn}
-use Rattle.judge.proofs.WalkLaws.{lets_at, cost-at, all-let, none-cost}
+use Rattle.part.specs.PartLaws.{active_row_lem}
+use Rattle.judge.specs.Decisions.{lets_of, cost_of, actives_in}
+use Rattle.judge.proofs.WalkLaws.{lets_at, cost_at, all_let, none_cost}
 use Rattle.judge.proofs.decision.lock_step.Statement.{statement}
 use Rattle.judge.proofs.decision.lock_step.Tie as tie
 
@@ -32,10 +32,10 @@ abbrev invariant-loop : tie.invariant-loop
 invariant-loop s c table n used promised state m col reading raise sum₀ i₀ sum i =
     (i ≤ n)
     × (sum ≤ i * 4294967295)
-    × (everyOf (letsOf (figuresOf used promised state) c) (drop i (take n (decode s).active))
-    ≡ everyOf (letsOf (figuresOf used promised state) c) (take n (decode s).active))
-    × (sum + sum_of (costOf (figuresOf used promised state) c) (drop i (take n (decode s).active))
-    ≡ sum_of (costOf (figuresOf used promised state) c) (take n (decode s).active))
+    × (every_of (lets_of (figures_of used promised state) c) (drop i (take n (decode s).active))
+    ≡ every_of (lets_of (figures_of used promised state) c) (take n (decode s).active))
+    × (sum + sum_of (cost_of (figures_of used promised state) c) (drop i (take n (decode s).active))
+    ≡ sum_of (cost_of (figures_of used promised state) c) (take n (decode s).active))
 
 abbrev decreases-loop : tie.decreases-loop
 decreases-loop s c table n used promised state m col reading raise sum₀ i₀ sum i = n - i
@@ -46,9 +46,9 @@ returns c =
     let k = c.before.before.before in
     let d = decode k.args.s.now in
     let q = k.args.c in
-    let none : haveSay (totalsOf (activesIn d)) q.method ≡ false =
-    sym (c.before.have-say.ensures ∙ ap (λ (t : Totals). haveSay t q.method) k.requires.1) ∙ not-true c.before.have-say.result c.if1.true in
-    (all-let (figuresIn d) q (activesIn d) none, ((λ e. none-cost (figuresIn d) q (activesIn d) none), omega arith))
+    let none : have_say (totals_of (actives_in d)) q.method ≡ false =
+    sym (c.before.have-say.ensures ∙ ap (λ (t : Totals). have_say t q.method) k.requires.1) ∙ not-true c.before.have-say.result c.if1.true in
+    (all_let (figures_in d) q (actives_in d) none, ((λ e. none_cost (figures_in d) q (actives_in d) none), omega arith))
 
 -- ---- what has been read before the walk
 
@@ -80,33 +80,33 @@ abbrev count : Read → ℕ
 count r = (at_count r).actives-at.result
 
 abbrev figures : Read → Figures
-figures r = figuresOf (at-used r).used-at.result (at-promised r).promised-at.result (at-state r).state-at.result
+figures r = figures_of (at-used r).used-at.result (at-promised r).promised-at.result (at-state r).state-at.result
 
 abbrev actives : Read → List Claim
 actives r = take (count r) (disk r).active
 
-count-is : (r : Read) → count r ≡ (disk r).actives
-count-is r = (at_count r).actives-at.ensures
+count_is : (r : Read) → count r ≡ (disk r).actives
+count_is r = (at_count r).actives-at.ensures
 
 row : (r : Read) → Row (disk r).active (count r)
-row r = active-row (start r).pre.0 (count-is r)
+row r = active_row_lem (start r).pre.0 (count_is r)
 
 -- A test and a sum by what has been read are those by the disk.
-by-disk : {X : Type 0} (r : Read) (f : Figures → List Claim → X) → f (figures r) (actives r) ≡ f (figuresIn (disk r)) (activesIn (disk r))
+by-disk : {X : Type 0} (r : Read) (f : Figures → List Claim → X) → f (figures r) (actives r) ≡ f (figures_in (disk r)) (actives_in (disk r))
 by-disk r f j =
-    f (figuresOf ((at-used r).used-at.ensures j) ((at-promised r).promised-at.ensures j) ((at-state r).state-at.ensures j))
-    (take (count-is r j) (disk r).active)
+    f (figures_of ((at-used r).used-at.ensures j) ((at-promised r).promised-at.ensures j) ((at-state r).state-at.ensures j))
+    (take (count_is r j) (disk r).active)
 
 -- ---- the stops of a turn, each from behind: the claim read, its index, the walk, and what was read before it
 
 abbrev at-claim : tie.After-index-of2 invariant-loop decreases-loop → tie.After-active-at invariant-loop decreases-loop
 at-claim k = k.before
 
-abbrev in-turn : tie.After-index-of2 invariant-loop decreases-loop → tie.In-loop invariant-loop decreases-loop
-in-turn k = (at-claim k).before
+abbrev in_turn : tie.After-index-of2 invariant-loop decreases-loop → tie.In-loop invariant-loop decreases-loop
+in_turn k = (at-claim k).before
 
 abbrev walk : tie.After-index-of2 invariant-loop decreases-loop → tie.At-loop invariant-loop decreases-loop
-walk k = (in-turn k).before
+walk k = (in_turn k).before
 
 abbrev read : tie.After-index-of2 invariant-loop decreases-loop → Read
 read k = (walk k).before
@@ -136,7 +136,7 @@ index-2-found : tie.Need-bounds-2-found invariant-loop decreases-loop
 index-2-found c = (at-index (read c)).index_of.ensures.1
 
 entry-requires : tie.Need-entry-requires invariant-loop decreases-loop
-unfolding diskEntries
+unfolding disk_entries
 entry-requires c κs =
     let k = c.before in
     let r = read k in
@@ -144,7 +144,7 @@ entry-requires c κs =
     k.index-of2.result (at-index r).index_of.result k.index-of2.ensures.0 (at-index r).index_of.ensures.0
 
 lets-requires : tie.Need-lets-requires invariant-loop decreases-loop
-lets-requires c κs = (read (at_entry c)).raise-of.ensures.1
+lets-requires c κs = (read (at_entry c)).raise_of_lem.ensures.1
 
 add-sum : tie.Need-overflow-add-sum invariant-loop decreases-loop
 add-sum c =
@@ -153,53 +153,53 @@ add-sum c =
 
 add-i : tie.Need-overflow-add-i invariant-loop decreases-loop
 add-i c =
-    let t = in-turn (at-cost c) in
+    let t = in_turn (at-cost c) in
     record { fits = omega (arith, t.loop-test.taken, (row t.before.before).few) }
 
 lets-there : (l : tie.After-lets invariant-loop decreases-loop) →
     let w = walk (at-lets l) in
-    letsOf (figures w.before) (start w.before).args.c (get_or (disk w.before).active w.loop.i noClaim) ≡ l.lets.result
+    lets_of (figures w.before) (start w.before).args.c (get_or (disk w.before).active w.loop.i no_claim) ≡ l.lets.result
 lets-there l =
     let r = read (at-lets l) in
     let c = (start r).args.c in
     let x = (at-claim (at-lets l)).active-at in
-    sym (ap (letsOf (figures r) c) x.ensures)
-    ∙ sym (lets_at (figures r) c x.result l.before.entry.ensures r.before.is-reading.ensures r.raise-of.ensures.0 l.lets.ensures)
+    sym (ap (lets_of (figures r) c) x.ensures)
+    ∙ sym (lets_at (figures r) c x.result l.before.entry.ensures r.before.is-reading.ensures r.raise_of_lem.ensures.0 l.lets.ensures)
 
 cost-there : (k : tie.After-cost invariant-loop decreases-loop) →
     let w = walk (at-cost k) in
-    k.cost.result ≡ costOf (figures w.before) (start w.before).args.c (get_or (disk w.before).active w.loop.i noClaim)
+    k.cost.result ≡ cost_of (figures w.before) (start w.before).args.c (get_or (disk w.before).active w.loop.i no_claim)
 cost-there k =
     let r = read (at-cost k) in
     let c = (start r).args.c in
     let x = (at-claim (at-cost k)).active-at in
-    cost-at (figures r) c x.result k.before.before.before.entry.ensures r.before.is-reading.ensures k.cost.ensures.0
-    ∙ ap (costOf (figures r) c) x.ensures
+    cost_at (figures r) c x.result k.before.before.before.entry.ensures r.before.is-reading.ensures k.cost.ensures.0
+    ∙ ap (cost_of (figures r) c) x.ensures
 
 loop-again : tie.Need-loop-preserved invariant-loop decreases-loop
 loop-again c =
     let l = c.before.before in
-    let t = in-turn (at-lets l) in
+    let t = in_turn (at-lets l) in
     let w = t.before in
     let r = w.before in
     let q = (start r).args.c in (
       omega (arith, t.loop-test.taken),
       omega (arith, w.loop.inv.1, c.cost.ensures.1),
-      every-on (row r) (letsOf (figures r) q) w.loop.i t.loop-test.taken (lets-there l ∙ c.before.if2.true) ∙ w.loop.inv.2,
-      omega (arith, w.loop.inv.3, cost-there c, sum-turn (row r) (costOf (figures r) q) w.loop.i t.loop-test.taken),
+      every_on (row r) (lets_of (figures r) q) w.loop.i t.loop-test.taken (lets-there l ∙ c.before.if2.true) ∙ w.loop.inv.2,
+      omega (arith, w.loop.inv.3, cost-there c, sum_turn (row r) (cost_of (figures r) q) w.loop.i t.loop-test.taken),
     )
 
 returns-2 : tie.Need-returns-2 invariant-loop decreases-loop
 returns-2 c =
     let l = c.before in
-    let t = in-turn (at-lets l) in
+    let t = in_turn (at-lets l) in
     let w = t.before in
     let r = w.before in
     let q = (start r).args.c in (
-      every-not (row r) (letsOf (figures r) q) w.loop.i t.loop-test.taken (lets-there l ∙ c.if2.false)
+      every_not (row r) (lets_of (figures r) q) w.loop.i t.loop-test.taken (lets-there l ∙ c.if2.false)
           ∙ w.loop.inv.2
-          ∙ by-disk r (λ f ws. everyOf (letsOf f q) ws),
-      ((λ e. never_true (0 ≡ sum_of (costOf (figuresIn (disk r)) q) (activesIn (disk r))) e), omega arith),
+          ∙ by-disk r (λ f ws. every_of (lets_of f q) ws),
+      ((λ e. never_true (0 ≡ sum_of (cost_of (figures_in (disk r)) q) (actives_in (disk r))) e), omega arith),
     )
 
 returns-3 : tie.Need-returns-3 invariant-loop decreases-loop
@@ -207,12 +207,12 @@ returns-3 c =
     let w = c.before in
     let r = w.before in
     let q = (start r).args.c in
-    let sums : w.loop.sum ≡ sum_of (costOf (figures r) q) (actives r) =
-    omega (arith, w.loop.invariant.3, sum-end (row r) (costOf (figures r) q) w.loop.i c.loop-test.false) in (
-      every-end (row r) (letsOf (figures r) q) w.loop.i c.loop-test.false
+    let sums : w.loop.sum ≡ sum_of (cost_of (figures r) q) (actives r) =
+    omega (arith, w.loop.invariant.3, sum_end (row r) (cost_of (figures r) q) w.loop.i c.loop-test.false) in (
+      every_end (row r) (lets_of (figures r) q) w.loop.i c.loop-test.false
           ∙ w.loop.invariant.2
-          ∙ by-disk r (λ f ws. everyOf (letsOf f q) ws),
-      ((λ e. sums ∙ by-disk r (λ f ws. sum_of (costOf f q) ws)), omega (arith, w.loop.invariant.0, w.loop.invariant.1, (row r).few)),
+          ∙ by-disk r (λ f ws. every_of (lets_of f q) ws),
+      ((λ e. sums ∙ by-disk r (λ f ws. sum_of (cost_of f q) ws)), omega (arith, w.loop.invariant.0, w.loop.invariant.1, (row r).few)),
     )
 
 pub lock-step-spec : {M : Type 1} → statement M

@@ -9,17 +9,17 @@ use Rattle.law.specs.declared.Claim.{Claim}
 use Rattle.rules.specs.declared.disk.Disk.{Disk}
 use Rattle.rules.specs.declared.totals.Totals.{Totals}
 use Rattle.rules.specs.Rows.{Row}
-use Rattle.rules.specs.RowLaws.{left-on, left_end}
-use Rattle.rules.specs.Totals.{totalsFrom, totalsOf}
-use Rattle.rules.proofs.TotalsLaws.{sum_is, sum-within, totals-on, totals-end}
+use Rattle.rules.specs.RowLaws.{left_on, left_end}
+use Rattle.rules.specs.Totals.{totals_from, totals_of}
+use Rattle.rules.proofs.TotalsLaws.{sum_is, sum_within, totals_on, totals_end}
 use Rattle.part.specs.Layout.{decode}
-use Rattle.part.specs.PartLaws.{active-row, adds-most}
-use Rattle.judge.specs.Decisions.{activesIn}
+use Rattle.part.specs.PartLaws.{active_row_lem, adds_most}
+use Rattle.judge.specs.Decisions.{actives_in}
 use Rattle.judge.proofs.decision.totals_at.Statement.{statement}
 use Rattle.judge.proofs.decision.totals_at.Tie as tie
 
 abbrev Inv : tie.invariant-loop
-Inv s n t₀ i₀ t i = (i ≤ n) × (totalsFrom t (drop i (take n (decode s).active)) ≡ totalsOf (take n (decode s).active))
+Inv s n t₀ i₀ t i = (i ≤ n) × (totals_from t (drop i (take n (decode s).active)) ≡ totals_of (take n (decode s).active))
 
 abbrev μ : tie.decreases-loop
 μ s n t₀ i₀ t i = n - i
@@ -40,17 +40,17 @@ count r = r.before.actives-at.result
 abbrev all : Read → List Claim
 all r = take (count r) (disk r).active
 
-count-is : (r : Read) → count r ≡ (disk r).actives
-count-is r = r.before.actives-at.ensures
+count_is : (r : Read) → count r ≡ (disk r).actives
+count_is r = r.before.actives-at.ensures
 
 row : (r : Read) → Row (disk r).active (count r)
-row r = active-row (start r).requires (count-is r)
+row r = active_row_lem (start r).requires (count_is r)
 
-by-disk : (r : Read) → totalsOf (all r) ≡ totalsOf (activesIn (disk r))
-by-disk r j = totalsOf (take (count-is r j) (disk r).active)
+by-disk : (r : Read) → totals_of (all r) ≡ totals_of (actives_in (disk r))
+by-disk r j = totals_of (take (count_is r j) (disk r).active)
 
 loop-holds : tie.Need-loop-init Inv μ
-loop-holds c = (omega arith, ap (λ (t : Totals). totalsFrom t (all c)) c.no-totals.ensures)
+loop-holds c = (omega arith, ap (λ (t : Totals). totals_from t (all c)) c.no-totals.ensures)
 
 active-at-requires : tie.Need-active-at-requires Inv μ
 active-at-requires c κs = ((start c.before.before).pre.long, omega (arith, c.loop-test.true, (row c.before.before).few))
@@ -61,10 +61,10 @@ with-claim-requires c κs =
     let r = l.before in
     omega (
       arith,
-      sum-within l.loop.t (drop l.loop.i (all r)),
+      sum_within l.loop.t (drop l.loop.i (all r)),
       ap (λ (t : Totals). t.sum) (l.loop.invariant.1 ∙ by-disk r),
-      sum_is (activesIn (disk r)),
-      adds-most (λ i. (r.before.before.shared-slice-known.given i).fits) (start r).requires,
+      sum_is (actives_in (disk r)),
+      adds_most (λ i. (r.before.before.shared-slice-known.given i).fits) (start r).requires,
     )
 
 add-i : tie.Need-overflow-add-i Inv μ
@@ -79,7 +79,7 @@ loop-again c =
     let l = t.before in
     let r = l.before in (
       omega (arith, t.loop-test.true),
-      totals-on l.loop.t (left-on (row r) l.loop.i t.loop-test.true ∙ ap (λ (y : Claim). y ∷ drop (l.loop.i + 1) (all r)) (sym x.active-at.ensures)) c.with-claim.ensures
+      totals_on l.loop.t (left_on (row r) l.loop.i t.loop-test.true ∙ ap (λ (y : Claim). y ∷ drop (l.loop.i + 1) (all r)) (sym x.active-at.ensures)) c.with-claim.ensures
           ∙ l.loop.invariant.1,
     )
 
@@ -87,7 +87,7 @@ returns : tie.Need-returns Inv μ
 returns c =
     let l = c.before in
     let r = l.before in
-    totals-end l.loop.t (left_end (row r) l.loop.i c.loop-test.false) ∙ l.loop.invariant.1 ∙ by-disk r
+    totals_end l.loop.t (left_end (row r) l.loop.i c.loop-test.false) ∙ l.loop.invariant.1 ∙ by-disk r
 
 pub totals-at-spec : {M : Type 1} → statement M
 totals-at-spec =

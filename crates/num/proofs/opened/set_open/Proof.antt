@@ -5,12 +5,12 @@ use native.Mathlib.Omega.{arith}
 use borrow.Author.Rules.{rules}
 use lib.Dec.{lit<}
 use lib.Pow.{shl_exact}
-use Rattle.num.specs.Opened.{setOpen}
+use Rattle.num.specs.Opened.{set_open}
 use Rattle.num.proofs.opened.set_open.Statement.{statement}
 use Rattle.num.proofs.opened.set_open.Tie as tie
 
 returns : tie.Need-returns
-unfolding setOpen
+unfolding set_open
 returns c =
     let power = shl_exact {a = 1} 1 (c.before.args.d % 8) 8 (lit< tt) (omega arith) in
     rw (power, one-mul)

@@ -5,14 +5,14 @@ use lib.IntN.{◌-ℤ◌}
 use mir.Facts.{to_z-of_z}
 use mir.Syntax.{w64}
 use mir.Val.{SFits}
-use Rattle.num.specs.Fits.{wide_fits, wide_read, size_fits, dist-most}
+use Rattle.num.specs.Fits.{wide_fits, wide_read, size_fits, dist_most}
 use Rattle.num.specs.Metric.{size, dist}
 use Rattle.num.proofs.signed.gap.Statement.{statement}
 use Rattle.num.proofs.signed.gap.Tie as tie
 
 small : (c : tie.Start) → size (c.args.a -ℤ c.args.b) ≤ 4294967295
 unfolding dist
-small c = dist-most c.args.a c.args.b c.ranges.a c.ranges.b
+small c = dist_most c.args.a c.args.b c.ranges.a c.ranges.b
 
 difference : (c : tie.Start) → SFits w64 (c.args.a -ℤ c.args.b)
 difference c = size_fits w64 _ (omega (arith, small c))

@@ -6,8 +6,8 @@ use lib.IntN.{◌+ℤ◌}
 use mir.Facts.{to_z-of_z}
 use mir.Syntax.{w64}
 use mir.Val.{SFits}
-use Rattle.num.specs.Fits.{wide_fits, wide_read, size_fits, size-most}
-use Rattle.num.specs.Metric.{size, size-add}
+use Rattle.num.specs.Fits.{wide_fits, wide_read, size_fits, size_most}
+use Rattle.num.specs.Metric.{size, size_add}
 use Rattle.num.proofs.signed.plus.Statement.{statement}
 use Rattle.num.proofs.signed.plus.Tie as tie
 
@@ -15,7 +15,7 @@ small : (c : tie.Start) → size (c.args.a +ℤ c.args.b) ≤ 4294967296
 small c =
     let a = c.args.a in
     let b = c.args.b in
-    omega (arith, size-add a b, size-most a c.ranges.a, size-most b c.ranges.b)
+    omega (arith, size_add a b, size_most a c.ranges.a, size_most b c.ranges.b)
 
 sum : (c : tie.Start) → SFits w64 (c.args.a +ℤ c.args.b)
 sum c = size_fits w64 _ (omega (arith, small c))

@@ -2,13 +2,13 @@
 use Prim.Native.Nat.{◌≤◌}
 use mathlib.Core.Path.{◌≡◌}
 use native.Mathlib.Omega.{arith}
-use Rattle.num.specs.Fits.{wide_fits, wide_read, size-most}
+use Rattle.num.specs.Fits.{wide_fits, wide_read, size_most}
 use Rattle.num.specs.Metric.{size}
 use Rattle.num.proofs.signed.size.Statement.{statement}
 use Rattle.num.proofs.signed.size.Tie as tie
 
 small : (c : tie.Start) → size c.args.z ≤ 2147483648
-small c = size-most c.args.z c.ranges.z
+small c = size_most c.args.z c.ranges.z
 
 cast-wide-size : tie.Need-overflow-cast-wide-size
 cast-wide-size c = wide_fits c.ranges.z

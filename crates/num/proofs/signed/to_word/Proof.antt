@@ -10,7 +10,7 @@ use lib.Signed.{lt_z}
 use mir.Facts.{to_z-of_z, Fits-of_z}
 use mir.Syntax.{w32, w64}
 use mir.Val.{SFits, Fits, of_z}
-use Rattle.num.specs.Fits.{wide_fits, wide_read, not-below-zero}
+use Rattle.num.specs.Fits.{wide_fits, wide_read, not_below_zero}
 use Rattle.num.specs.Signed.{word_of}
 use Rattle.num.proofs.signed.to_word.Statement.{statement}
 use Rattle.num.proofs.signed.to_word.Tie as tie
@@ -55,7 +55,7 @@ module _ (c : tie.Else1) where
 
 cast-result-3 : tie.Need-overflow-cast-result-3
 cast-result-3 c =
-    rw (to_z-of_z c.before.ranges.z) (not-below-zero c.before.args.z (test c), rw (itself-is c) (word c.before))
+    rw (to_z-of_z c.before.ranges.z) (not_below_zero c.before.args.z (test c), rw (itself-is c) (word c.before))
 
 returns-2 : tie.Need-returns-2
 unfolding word_of

@@ -1,8 +1,8 @@
--- Each store keeps the length, so all four bytes are within; the four stores are `putWord` as it is written.
+-- Each store keeps the length, so all four bytes are within; the four stores are `put_word` as it is written.
 use native.Mathlib.Omega.{arith}
 use borrow.Author.Rules.{rules}
 use lib.ListN.{length-set}
-use Rattle.num.specs.Word.{putWord}
+use Rattle.num.specs.Word.{put_word}
 use Rattle.num.proofs.word.put_word.Statement.{statement}
 use Rattle.num.proofs.word.put_word.Tie as tie
 
@@ -16,7 +16,7 @@ slice-write-s-4 : tie.Need-slice-write-s-4
 slice-write-s-4 c = simp length-set (omega arith)
 
 returns : tie.Need-returns
-unfolding putWord
+unfolding put_word
 returns c = search rules
 
 pub put-word-spec : {M : Type 1} → statement M

@@ -1,11 +1,11 @@
--- The four bytes read are those of `wordAt`.
+-- The four bytes read are those of `word_at`.
 use borrow.Author.Rules.{rules}
-use Rattle.num.specs.Word.{wordAt}
+use Rattle.num.specs.Word.{word_at}
 use Rattle.num.proofs.word.word_at.Statement.{statement}
 use Rattle.num.proofs.word.word_at.Tie as tie
 
 returns : tie.Need-returns
-unfolding wordAt
+unfolding word_at
 returns c = search rules
 
 pub word-at-spec : {M : Type 1} → statement M

@@ -1,12 +1,12 @@
--- Each figure read is that of `attrAt`.
+-- Each figure read is that of `attr_at`.
 use borrow.Author.Rules.{rules, sfits_of}
 use mir.Facts.{to_z-of_z}
-use Rattle.part.specs.Layout.{attrAt}
+use Rattle.part.specs.Layout.{attr_at}
 use Rattle.part.proofs.read.attr_at.Statement.{statement}
 use Rattle.part.proofs.read.attr_at.Tie as tie
 
 returns : tie.Need-returns
-unfolding attrAt
+unfolding attr_at
 returns c =
     let b1 = c.before in
     let b2 = b1.before in

@@ -1,12 +1,12 @@
--- Each figure read is that of `claimIn`.
+-- Each figure read is that of `claim_in`.
 use borrow.Author.Rules.{rules, sfits_of}
 use mir.Facts.{to_z-of_z}
-use Rattle.part.specs.Layout.{claimIn}
+use Rattle.part.specs.Layout.{claim_in}
 use Rattle.part.proofs.read.claim_in.Statement.{statement}
 use Rattle.part.proofs.read.claim_in.Tie as tie
 
 returns : tie.Need-returns
-unfolding claimIn
+unfolding claim_in
 returns c =
     let b1 = c.before in
     let b2 = b1.before in

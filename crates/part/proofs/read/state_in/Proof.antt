@@ -1,12 +1,12 @@
--- Each figure read is that of `stateIn`.
+-- Each figure read is that of `state_in`.
 use borrow.Author.Rules.{rules, sfits_of}
 use mir.Facts.{to_z-of_z}
-use Rattle.part.specs.Layout.{stateIn}
+use Rattle.part.specs.Layout.{state_in}
 use Rattle.part.proofs.read.state_in.Statement.{statement}
 use Rattle.part.proofs.read.state_in.Tie as tie
 
 returns : tie.Need-returns
-unfolding stateIn
+unfolding state_in
 returns c =
     rw (to_z-of_z (sfits_of c.before.signed-at.type-inv), c.before.signed-at.ensures, c.word_at.ensures)
 

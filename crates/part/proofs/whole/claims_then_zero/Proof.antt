@@ -3,7 +3,7 @@ use Prim.Native.Nat.{◌+◌}
 use mathlib.Core.Path.{refl}
 use native.Mathlib.Omega.{arith}
 use borrow.Author.Rules.{rules}
-use Rattle.part.proofs.WholeLaws.{n-claims}
+use Rattle.part.proofs.WholeLaws.{n_claims}
 use Rattle.part.proofs.whole.claims_then_zero.Statement.{statement}
 use Rattle.part.proofs.whole.claims_then_zero.Tie as tie
 
@@ -11,7 +11,7 @@ returns : tie.Need-returns
 returns c =
     let z = c.before in
     let a = z.before.before.before.args in
-    rw (c.both.ensures, z.before.spare-zero.ensures, z.zero-from.ensures) (n-claims a.s.now a.at a.n (a.at + 352) (omega arith) refl)
+    rw (c.both.ensures, z.before.spare-zero.ensures, z.zero-from.ensures) (n_claims a.s.now a.at a.n (a.at + 352) (omega arith) refl)
 
 pub claims-then-zero-spec : {M : Type 1} → statement M
 claims-then-zero-spec =

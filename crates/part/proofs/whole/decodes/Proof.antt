@@ -4,9 +4,9 @@ use mathlib.Core.Bool.{Bool, ◌&&◌, and-true}
 use mathlib.Core.List.{List}
 use mathlib.Core.Path.{◌≡◌, refl, sym, ap, ◌∙◌}
 use borrow.Author.Rules.{rules}
-use Rattle.num.specs.Word.{wordAt}
-use Rattle.part.specs.Layout.{activesAt, waitingsAt, zeroAt, slotsWhole, decodes}
-use Rattle.part.proofs.WholeLaws.{no-claim, no-claims}
+use Rattle.num.specs.Word.{word_at}
+use Rattle.part.specs.Layout.{actives_at, waitings_at, zero_at, slots_whole, decodes}
+use Rattle.part.proofs.WholeLaws.{no_claim_lem, no_claims}
 use Rattle.part.proofs.whole.decodes.Statement.{statement}
 use Rattle.part.proofs.whole.decodes.Tie as tie
 
@@ -17,20 +17,20 @@ Read = tie.After-word-at2
 abbrev part : Read → List ℕ
 part r = r.before.before.before.before.args.s.now
 
-actives-is : (r : Read) → r.before.word_at.result ≡ wordAt (part r) activesAt
+actives-is : (r : Read) → r.before.word_at.result ≡ word_at (part r) actives_at
 actives-is r = r.before.word_at.ensures
 
-none-waits : (k : tie.Then1) → wordAt (part k.before) waitingsAt ≡ 0
-none-waits k = sym k.before.word-at2.ensures ∙ k.if1.true
+none_waits : (k : tie.Then1) → word_at (part k.before) waitings_at ≡ 0
+none_waits k = sym k.before.word-at2.ensures ∙ k.if1.true
 
 returns : tie.Need-returns
 unfolding decodes
 returns c =
     let w = c.before.before.before in
     let r = w.before in
-    let active : wordAt (part r) activesAt ≡ 0 = sym (actives-is r) ∙ c.before.before.if2.true in
-    rw (c.both.ensures, r.before.before.zero-words.ensures, c.before.zero-between.ensures, active, none-waits w, and-true)
-    (ap (λ (b : Bool). zeroAt (part r) 56 8 && b) (no-claims (part r)))
+    let active : word_at (part r) actives_at ≡ 0 = sym (actives-is r) ∙ c.before.before.if2.true in
+    rw (c.both.ensures, r.before.before.zero-words.ensures, c.before.zero-between.ensures, active, none_waits w, and-true)
+    (ap (λ (b : Bool). zero_at (part r) 56 8 && b) (no_claims (part r)))
 
 returns-2 : tie.Need-returns-2
 unfolding decodes
@@ -42,11 +42,11 @@ returns-2 c =
       c.both3.ensures,
       c.before.both2.ensures,
       r.before.before.zero-words.ensures,
-      l.slots-whole.ensures,
+      l.slots_whole_lem.ensures,
       actives-is r,
       c.before.before.zero-between2.ensures,
-      no-claim (part r) 416 768 refl,
-      none-waits w,
+      no_claim_lem (part r) 416 768 refl,
+      none_waits w,
       and-true,
     )
 
@@ -59,8 +59,8 @@ returns-3 c =
       c.both5.ensures,
       c.before.both4.ensures,
       r.before.before.zero-words.ensures,
-      l.before.slots-whole2.ensures ∙ ap (slotsWhole (part r) 64) (actives-is r),
-      l.slots-whole3.ensures ∙ ap (slotsWhole (part r) 416) r.word-at2.ensures,
+      l.before.slots-whole2.ensures ∙ ap (slots_whole (part r) 64) (actives-is r),
+      l.slots-whole3.ensures ∙ ap (slots_whole (part r) 416) r.word-at2.ensures,
       and-true,
     )
 

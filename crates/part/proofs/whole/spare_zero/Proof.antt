@@ -1,4 +1,4 @@
--- The spare words of the slots looked at so far, joined, are zero if `spareZero` says so.
+-- The spare words of the slots looked at so far, joined, are zero if `spare_zero` says so.
 use Prim.Native.Nat.{◌+◌, ◌*◌, ◌-◌, ◌≤◌}
 use mathlib.Core.Path.{◌≡◌, refl}
 use native.Mathlib.Numerals.{add-one}
@@ -6,27 +6,27 @@ use native.Mathlib.Omega.{arith}
 use lib.Bits.{bit_or}
 use lib.Dec.{eqb}
 use borrow.Author.Rules.{rules}
-use Rattle.num.specs.Word.{wordAt}
-use Rattle.part.specs.ByteLaws.{or-none, zero-two}
-use Rattle.part.specs.Layout.{spareZero}
+use Rattle.num.specs.Word.{word_at}
+use Rattle.part.specs.ByteLaws.{or_none, zero_two}
+use Rattle.part.specs.Layout.{spare_zero}
 use Rattle.part.proofs.whole.spare_zero.Statement.{statement}
 use Rattle.part.proofs.whole.spare_zero.Tie as tie
 
 abbrev invariant-loop : tie.invariant-loop
 invariant-loop s at n all₀ i₀ all i =
-    (i ≤ n) × (eqb all 0 ≡ spareZero s at i)
+    (i ≤ n) × (eqb all 0 ≡ spare_zero s at i)
 
 abbrev decreases-loop : tie.decreases-loop
 decreases-loop s at n all₀ i₀ all i =
     n - i
 
 loop-holds : tie.Need-loop-init invariant-loop decreases-loop
-unfolding spareZero
+unfolding spare_zero
 loop-holds c =
     (omega arith, refl)
 
 loop-again : tie.Need-loop-preserved invariant-loop decreases-loop
-unfolding spareZero
+unfolding spare_zero
 loop-again c =
     let l = c.before.before.before in
     let a = l.before.before.args in
@@ -35,8 +35,8 @@ loop-again c =
       rw (
         c.word-at2.ensures,
         c.before.word_at.ensures,
-        or-none l.loop.all (bit_or (wordAt a.s.now p) (wordAt a.s.now (p + 4))),
-        zero-two a.s.now p (omega arith),
+        or_none l.loop.all (bit_or (word_at a.s.now p) (word_at a.s.now (p + 4))),
+        zero_two a.s.now p (omega arith),
         l.loop.invariant.1,
         add-one l.loop.i,
       ),

@@ -5,14 +5,14 @@ use mathlib.Core.Path.{◌≡◌, refl, ◌∙◌}
 use native.Mathlib.Omega.{arith}
 use lib.Dec.{eqb}
 use borrow.Author.Rules.{rules}
-use Rattle.part.specs.ByteLaws.{zero_more, zero-end}
-use Rattle.part.specs.Layout.{zeroAt}
+use Rattle.part.specs.ByteLaws.{zero_more, zero_end}
+use Rattle.part.specs.Layout.{zero_at}
 use Rattle.part.proofs.whole.zero_between.Statement.{statement}
 use Rattle.part.proofs.whole.zero_between.Tie as tie
 
 abbrev invariant-loop : tie.invariant-loop
 invariant-loop s from to all₀ i₀ all i =
-    (eqb all 0 && zeroAt s i (to - i)) ≡ zeroAt s from (to - from)
+    (eqb all 0 && zero_at s i (to - i)) ≡ zero_at s from (to - from)
 
 abbrev decreases-loop : tie.decreases-loop
 decreases-loop s from to all₀ i₀ all i =
@@ -32,7 +32,7 @@ returns : tie.Need-returns invariant-loop decreases-loop
 returns c =
     let l = c.before in
     let a = l.before.args in
-    zero-end a.s.now l.loop.all l.loop.i a.to (omega arith) ∙ l.loop.invariant
+    zero_end a.s.now l.loop.all l.loop.i a.to (omega arith) ∙ l.loop.invariant
 
 pub zero-between-spec : {M : Type 1} → statement M
 zero-between-spec =

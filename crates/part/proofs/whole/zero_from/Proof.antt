@@ -3,8 +3,8 @@ use Prim.Native.Nat.{◌+◌, ◌*◌, ◌-◌}
 use mathlib.Core.Path.{◌≡◌, sym, ap, ◌∙◌}
 use native.Mathlib.Omega.{arith}
 use borrow.Author.Rules.{rules}
-use Rattle.part.specs.ByteLaws.{zero-split}
-use Rattle.part.specs.Layout.{zeroAt}
+use Rattle.part.specs.ByteLaws.{zero_split}
+use Rattle.part.specs.Layout.{zero_at}
 use Rattle.part.proofs.whole.zero_from.Statement.{statement}
 use Rattle.part.proofs.whole.zero_from.Tie as tie
 
@@ -15,7 +15,7 @@ returns c =
     let rest = a.to - (a.from + first) in
     let size : first + rest ≡ a.to - a.from = omega arith in
     rw (c.both.ensures, c.before.before.zero-words.ensures, c.before.zero-between.ensures)
-    (sym (zero-split a.s.now a.from first rest) ∙ ap (zeroAt a.s.now a.from) size)
+    (sym (zero_split a.s.now a.from first rest) ∙ ap (zero_at a.s.now a.from) size)
 
 pub zero-from-spec : {M : Type 1} → statement M
 zero-from-spec =

@@ -4,23 +4,23 @@ use mathlib.Core.Path.{◌≡◌, refl, sym, ap, ◌∙◌}
 use native.Mathlib.Omega.{arith}
 use lib.Dec.{eqb}
 use borrow.Author.Rules.{rules}
-use Rattle.num.specs.Runs.{allZero}
-use Rattle.num.specs.Word.{wordAt}
-use Rattle.part.specs.ByteLaws.{or-none, zero_word, zero-split}
-use Rattle.part.specs.Layout.{zeroAt}
+use Rattle.num.specs.Runs.{all_zero}
+use Rattle.num.specs.Word.{word_at}
+use Rattle.part.specs.ByteLaws.{or_none, zero_word, zero_split}
+use Rattle.part.specs.Layout.{zero_at}
 use Rattle.part.proofs.whole.zero_words.Statement.{statement}
 use Rattle.part.proofs.whole.zero_words.Tie as tie
 
 abbrev invariant-loop : tie.invariant-loop
 invariant-loop s at n all₀ i₀ all i =
-    (i ≤ n) × (eqb all 0 ≡ zeroAt s at (4 * i))
+    (i ≤ n) × (eqb all 0 ≡ zero_at s at (4 * i))
 
 abbrev decreases-loop : tie.decreases-loop
 decreases-loop s at n all₀ i₀ all i =
     n - i
 
 loop-holds : tie.Need-loop-init invariant-loop decreases-loop
-unfolding allZero
+unfolding all_zero
 loop-holds c =
     (omega arith, refl)
 
@@ -32,8 +32,8 @@ loop-again c =
     let p = a.at + 4 * l.loop.i in
     let size : 4 * l.loop.i + 4 ≡ 4 * (l.loop.i + 1) = omega arith in (
       omega arith,
-      rw (c.word_at.ensures, or-none l.loop.all (wordAt s p), zero_word s p (omega arith), l.loop.invariant.1)
-          (sym (zero-split s a.at (4 * l.loop.i) 4) ∙ ap (zeroAt s a.at) size),
+      rw (c.word_at.ensures, or_none l.loop.all (word_at s p), zero_word s p (omega arith), l.loop.invariant.1)
+          (sym (zero_split s a.at (4 * l.loop.i) 4) ∙ ap (zero_at s a.at) size),
     )
 
 returns : tie.Need-returns invariant-loop decreases-loop

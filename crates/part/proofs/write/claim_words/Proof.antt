@@ -1,14 +1,14 @@
--- Each word is that of `claimWords`.
+-- Each word is that of `claim_words`.
 use borrow.Author.Rules.{rules}
 use mir.Facts.{to_z-of_z}
 use mir.Syntax.{w32}
 use mir.Val.{SFits}
-use Rattle.part.specs.Layout.{claimWords}
+use Rattle.part.specs.Layout.{claim_words}
 use Rattle.part.proofs.write.claim_words.Statement.{statement}
 use Rattle.part.proofs.write.claim_words.Tie as tie
 
 returns : tie.Need-returns
-unfolding claimWords
+unfolding claim_words
 returns c =
     let a = c.before.before.before.before.args in
     let value : SFits w32 a.c.value = search rules in

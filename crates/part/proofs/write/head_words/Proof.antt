@@ -1,9 +1,9 @@
--- Each word is that of `headWords`.
+-- Each word is that of `head_words`.
 use borrow.Author.Rules.{rules}
 use mir.Facts.{to_z-of_z}
 use mir.Syntax.{w32}
 use mir.Val.{SFits}
-use Rattle.part.specs.Layout.{headWords}
+use Rattle.part.specs.Layout.{head_words}
 use Rattle.part.proofs.write.head_words.Statement.{statement}
 use Rattle.part.proofs.write.head_words.Tie as tie
 
@@ -17,7 +17,7 @@ state : (c : tie.Start) → SFits w32 c.args.d.state.value
 state c = search rules
 
 returns : tie.Need-returns
-unfolding headWords
+unfolding head_words
 returns c =
     let b = c.before.before in
     let start = b.before.before.before.before in

@@ -6,7 +6,7 @@ use Rattle.part.proofs.write.put_claim.Tie as tie
 returns : tie.Need-returns
 returns c =
     let p = c.before.before in
-    rw (p.put-words.ensures, p.before.before.before.claim-words.ensures)
+    rw (p.put-words.ensures, p.before.before.before.claim_words_lem.ensures)
 
 pub put-claim-spec : {M : Type 1} → statement M
 put-claim-spec =

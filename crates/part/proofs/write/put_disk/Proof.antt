@@ -25,7 +25,7 @@ returns c =
     let h = p1.before.before.before in
     let start = h.before.before.before.before in
     let a = start.args in
-    rw (p3.put-claims2.ensures, p2.put-claims.ensures, p1.put-words.ensures, h.head-words.ensures)
+    rw (p3.put-claims2.ensures, p2.put-claims.ensures, p1.put-words.ensures, h.head_words_lem.ensures)
     (put_all a.d (active start) (waiting start) a.s.now start.requires)
 
 pub put-disk-spec : {M : Type 1} → statement M

@@ -6,9 +6,9 @@ use native.Mathlib.Omega.{arith}
 use lib.ListN.{length, take, get_or}
 use lib.Seq.{take_all}
 use borrow.Author.Rules.{rules}
-use Rattle.num.specs.RunLaws.{splice-none, put-splice}
+use Rattle.num.specs.RunLaws.{splice_none, put_splice}
 use Rattle.num.specs.Runs.{le4, flat, splice}
-use Rattle.part.specs.SlotLaws.{put-more}
+use Rattle.part.specs.SlotLaws.{put_more}
 use Rattle.part.proofs.write.put_words.Statement.{statement}
 use Rattle.part.proofs.write.put_words.Tie as tie
 
@@ -23,7 +23,7 @@ decreases-loop s₀ at words j₀ s j =
 loop-holds : tie.Need-loop-init invariant-loop decreases-loop
 unfolding flat
 loop-holds c =
-    (omega arith, refl, sym (splice-none _ _))
+    (omega arith, refl, sym (splice_none _ _))
 
 loop-again : tie.Need-loop-preserved invariant-loop decreases-loop
 loop-again c =
@@ -34,9 +34,9 @@ loop-again c =
       omega arith,
       omega arith,
       p.put_word.ensures
-          ∙ put-splice l.loop.s (a.at + 4 * l.loop.j) x
+          ∙ put_splice l.loop.s (a.at + 4 * l.loop.j) x
           ∙ ap (λ (r : List ℕ). splice r (a.at + 4 * l.loop.j) (le4 x)) l.loop.invariant.2
-          ∙ put-more a.s.now a.at l.loop.j a.words.now (omega arith),
+          ∙ put_more a.s.now a.at l.loop.j a.words.now (omega arith),
     )
 
 returns : tie.Need-returns invariant-loop decreases-loop

@@ -4,7 +4,7 @@ use mathlib.Core.Path.{sym, ap, ◌∙◌}
 use Prim.Native.Nat.{◌<◌}
 use borrow.Author.Rules.{rules}
 use borrow.Author.Tests.{ltb-true, ltb-false, not-true, not-false}
-use Rattle.rules.proofs.CallLaws.{first-clock, first-method, first_field, first-own, first-ticket, first-none}
+use Rattle.rules.proofs.CallLaws.{first_clock, first_method, first_field, first_own, first_ticket, first_none}
 use Rattle.rules.proofs.fields.checked.Statement.{statement}
 use Rattle.rules.proofs.fields.checked.Tie as tie
 
@@ -14,12 +14,12 @@ known m = ltb-true _ 7 (sym m.before.is_Known.ensures ∙ not-false _ m.if2.fals
 
 returns : tie.Need-returns
 returns c =
-    first-clock _ _ _ _ c.if1.true
+    first_clock _ _ _ _ c.if1.true
 
 returns-2 : tie.Need-returns-2
 returns-2 c =
     let t = c.before.before in
-    first-method _ _ _ _ t.if1.false
+    first_method _ _ _ _ t.if1.false
     (ltb-false _ 7 (sym c.before.is_Known.ensures ∙ not-true _ c.if2.true))
 
 returns-3 : tie.Need-returns-3
@@ -34,7 +34,7 @@ returns-4 c =
     let f = c.before.before in
     let m = f.before.before in
     let t = m.before.before in
-    first-own _ _ _ _ t.if1.false (known m)
+    first_own _ _ _ _ t.if1.false (known m)
     (ap not (sym f.before.fields_fit.ensures) ∙ f.if3.false)
     (ap not (sym c.before.own-fits.ensures) ∙ c.if4.true)
 
@@ -44,7 +44,7 @@ returns-5 c =
     let f = o.before.before in
     let m = f.before.before in
     let t = m.before.before in
-    first-ticket _ _ _ _ t.if1.false (known m)
+    first_ticket _ _ _ _ t.if1.false (known m)
     (ap not (sym f.before.fields_fit.ensures) ∙ f.if3.false)
     (ap not (sym o.before.own-fits.ensures) ∙ o.if4.false)
     c.if5.true
@@ -55,7 +55,7 @@ returns-6 c =
     let f = o.before.before in
     let m = f.before.before in
     let t = m.before.before in
-    first-none _ _ _ _ t.if1.false (known m)
+    first_none _ _ _ _ t.if1.false (known m)
     (ap not (sym f.before.fields_fit.ensures) ∙ f.if3.false)
     (ap not (sym o.before.own-fits.ensures) ∙ o.if4.false)
     c.if5.false

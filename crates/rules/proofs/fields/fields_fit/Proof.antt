@@ -3,21 +3,21 @@ use mathlib.Core.Path.{sym, ◌∙◌}
 use borrow.Author.Rules.{rules}
 use mir.Facts.{to_z-of_z}
 use Rattle.law.specs.Entries.{kind_of}
-use Rattle.law.specs.DiskType.{diskTable}
-use Rattle.rules.proofs.CallLaws.{error-over, reading-measured, reading-rest, write-flag, write-later, write-rest}
+use Rattle.law.specs.DiskType.{disk_table}
+use Rattle.rules.proofs.CallLaws.{error_over, reading_measured, reading_rest, write_flag, write_later, write_rest}
 use Rattle.rules.proofs.fields.fields_fit.Statement.{statement}
 use Rattle.rules.proofs.fields.fields_fit.Tie as tie
 
 returns : tie.Need-returns
 returns c =
     let a = c.before.before.args in
-    error-over a.now a.c (kind_of diskTable a.c) c.if1.true
+    error_over a.now a.c (kind_of disk_table a.c) c.if1.true
 
 returns-2 : tie.Need-returns-2
 returns-2 c =
     let r = c.before.before in
     let a = r.before.before.before.before.args in
-    reading-measured a.now a.c (kind_of diskTable a.c) (sym r.before.is-reading.ensures ∙ r.if2.true) c.if3.true
+    reading_measured a.now a.c (kind_of disk_table a.c) (sym r.before.is-reading.ensures ∙ r.if2.true) c.if3.true
 
 returns-3 : tie.Need-returns-3
 returns-3 c =
@@ -26,20 +26,20 @@ returns-3 c =
     let e = r.before.before in
     let a = e.before.before.args in
     rw (c.size.ensures.0, to_z-of_z (record { sfits = c.before.struct_told.given.1.1.1.1.1.0.1 }))
-    (reading-rest a.now a.c (kind_of diskTable a.c)
+    (reading_rest a.now a.c (kind_of disk_table a.c)
     (sym r.before.is-reading.ensures ∙ r.if2.true) m.if3.false e.if1.false)
 
 returns-4 : tie.Need-returns-4
 returns-4 c =
     let r = c.before.before in
     let a = r.before.before.before.before.args in
-    write-flag a.now a.c (kind_of diskTable a.c) (sym r.before.is-reading.ensures ∙ r.if2.false) c.if4.true
+    write_flag a.now a.c (kind_of disk_table a.c) (sym r.before.is-reading.ensures ∙ r.if2.false) c.if4.true
 
 returns-5 : tie.Need-returns-5
 returns-5 c =
     let r = c.before.before.before.before in
     let a = r.before.before.before.before.args in
-    write-later a.now a.c (kind_of diskTable a.c) (sym r.before.is-reading.ensures ∙ r.if2.false) c.if5.true
+    write_later a.now a.c (kind_of disk_table a.c) (sym r.before.is-reading.ensures ∙ r.if2.false) c.if5.true
 
 returns-6 : tie.Need-returns-6
 returns-6 c =
@@ -48,8 +48,8 @@ returns-6 c =
     let r = f.before.before in
     let e = r.before.before in
     let a = e.before.before.args in
-    rw (c.value-fits.ensures, to_z-of_z (record { sfits = c.before.struct-told2.given.1.1.1.1.1.0.1 }))
-    (write-rest a.now a.c (kind_of diskTable a.c)
+    rw (c.value_fits_lem.ensures, to_z-of_z (record { sfits = c.before.struct-told2.given.1.1.1.1.1.0.1 }))
+    (write_rest a.now a.c (kind_of disk_table a.c)
     (sym r.before.is-reading.ensures ∙ r.if2.false) f.if4.false l.if5.false e.if1.false)
 
 pub fields-fit-spec : {M : Type 1} → statement M

@@ -2,16 +2,16 @@
 use mathlib.Core.Path.{sym, ◌∙◌}
 use borrow.Author.Rules.{rules}
 use Rattle.law.specs.Entries.{kind_at}
-use Rattle.law.specs.DiskType.{diskTable}
-use Rattle.rules.specs.Methods.{figuresOf}
-use Rattle.rules.proofs.CallLaws.{own-reading, own-write}
+use Rattle.law.specs.DiskType.{disk_table}
+use Rattle.rules.specs.Methods.{figures_of}
+use Rattle.rules.proofs.CallLaws.{own_reading, own_write}
 use Rattle.rules.proofs.fields.own_fits.Statement.{statement}
 use Rattle.rules.proofs.fields.own_fits.Tie as tie
 
 returns : tie.Need-returns
 returns c =
     let a = c.before.before.args in
-    own-reading (figuresOf a.used a.promised a.state) (kind_at diskTable a.m) a.error
+    own_reading (figures_of a.used a.promised a.state) (kind_at disk_table a.m) a.error
     (sym c.before.is-reading.ensures ∙ c.if1.true)
 
 returns-2 : tie.Need-returns-2
@@ -19,7 +19,7 @@ returns-2 c =
     let r = c.before.before in
     let a = r.before.before.args in
     rw c.before.written.ensures
-    (own-write (figuresOf a.used a.promised a.state) (kind_at diskTable a.m) a.error
+    (own_write (figures_of a.used a.promised a.state) (kind_at disk_table a.m) a.error
     (sym r.before.is-reading.ensures ∙ r.if1.false))
 
 pub own-fits-spec : {M : Type 1} → statement M

@@ -3,12 +3,12 @@ use mathlib.Core.Bool.{Bool, not, and-true}
 use mathlib.Core.List.{[], ◌∷◌}
 use mathlib.Core.Path.{◌≡◌, sym}
 use borrow.Author.Rules.{rules}
-use Rattle.law.specs.Base.{allTrue}
+use Rattle.law.specs.Base.{all_true}
 use Rattle.law.specs.Types.{Attribute, a0, a1, a2, Figures}
 use Rattle.law.specs.Entries.{kind_at}
-use Rattle.law.specs.DiskType.{diskTable}
-use Rattle.rules.specs.Methods.{readMask, figuresOf, freshAt}
-use Rattle.rules.proofs.RuleLaws.{staleIn, fresh-unasked, fresh-asked}
+use Rattle.law.specs.DiskType.{disk_table}
+use Rattle.rules.specs.Methods.{read_mask, figures_of, fresh_at}
+use Rattle.rules.proofs.RuleLaws.{stale_in, fresh_unasked, fresh_asked}
 use Rattle.rules.proofs.figures.fresh.Statement.{statement}
 use Rattle.rules.proofs.figures.fresh.Tie as tie
 
@@ -17,19 +17,19 @@ abbrev start : tie.After-reads → tie.Start
 start r = r.before.before
 
 abbrev figures : tie.After-reads → Figures
-figures r = let a = (start r).args in figuresOf a.used a.promised a.state
+figures r = let a = (start r).args in figures_of a.used a.promised a.state
 
 abbrev stale-of : tie.After-reads → Attribute → Bool
-stale-of r a = staleIn (figures r) (start r).args.now (start r).args.flag (readMask (start r).args.m) a
+stale-of r a = stale_in (figures r) (start r).args.now (start r).args.flag (read_mask (start r).args.m) a
 
 -- The answer is that of three tests, and each is a call's.
 tests : (r : tie.After-reads) →
-    freshAt (figures r) (start r).args.now (kind_at diskTable (start r).args.m) (start r).args.flag
-    ≡ allTrue (not (stale-of r a0) ∷ not (stale-of r a1) ∷ not (stale-of r a2) ∷ [])
-unfolding readMask
+    fresh_at (figures r) (start r).args.now (kind_at disk_table (start r).args.m) (start r).args.flag
+    ≡ all_true (not (stale-of r a0) ∷ not (stale-of r a1) ∷ not (stale-of r a2) ∷ [])
+unfolding read_mask
 tests r =
     let a = (start r).args in
-    fresh-asked (figures r) a.now (kind_at diskTable a.m) a.flag r.before.if1.false
+    fresh_asked (figures r) a.now (kind_at disk_table a.m) a.flag r.before.if1.false
 
 stale-0 : (c : tie.After-stale) → stale-of c.before.before a0 ≡ c.stale.result
 stale-0 c = sym (rw (c.before.bit.ensures, c.before.before.reads.ensures) at c.stale.ensures)
@@ -47,8 +47,8 @@ stale-2 c =
 returns : tie.Need-returns
 returns c =
     let a = c.before.args in
-    let f = figuresOf a.used a.promised a.state in
-    sym (fresh-unasked f a.now (kind_at diskTable a.m) a.flag c.if1.true)
+    let f = figures_of a.used a.promised a.state in
+    sym (fresh_unasked f a.now (kind_at disk_table a.m) a.flag c.if1.true)
 
 returns-2 : tie.Need-returns-2
 returns-2 c = rw (tests c.before.before.before, stale-0 c.before, c.if2.true)

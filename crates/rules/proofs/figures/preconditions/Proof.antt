@@ -3,35 +3,35 @@ use mathlib.Core.Path.{sym, ◌∙◌}
 use borrow.Author.Rules.{rules, sfits_of}
 use mir.Facts.{to_z-of_z}
 use Rattle.law.specs.Entries.{kind_at}
-use Rattle.law.specs.DiskType.{diskTable}
-use Rattle.rules.specs.Methods.{figuresOf, preOf}
-use Rattle.rules.proofs.RuleLaws.{pre-over, pre-adds, pre-carries, pre-reads, pre-sets}
+use Rattle.law.specs.DiskType.{disk_table}
+use Rattle.rules.specs.Methods.{figures_of, pre_of}
+use Rattle.rules.proofs.RuleLaws.{pre_over, pre_adds, pre_carries, pre_reads, pre_sets}
 use Rattle.rules.proofs.figures.preconditions.Statement.{statement}
 use Rattle.rules.proofs.figures.preconditions.Tie as tie
 
 returns : tie.Need-returns
-unfolding preOf
+unfolding pre_of
 returns c =
     let w = c.before.before.before.before in
     let d = w.before.before in
     let a = d.before.args in
-    let f = figuresOf a.used a.promised a.state in
-    let k = kind_at diskTable a.c.method in
+    let f = figures_of a.used a.promised a.state in
+    let k = kind_at disk_table a.c.method in
     let add = sym d.is-add.ensures ∙ w.before.if1.true in
-    sym (pre-over f a.now a.adds a.c k add (rw w.written.ensures at c.if2.true))
+    sym (pre_over f a.now a.adds a.c k add (rw w.written.ensures at c.if2.true))
 
 returns-2 : tie.Need-returns-2
-unfolding preOf
+unfolding pre_of
 returns-2 c =
     let u = c.before.before in
     let l = u.before.before in
     let w = l.before.before.before.before in
     let d = w.before.before in
     let a = d.before.args in
-    let f = figuresOf a.used a.promised a.state in
-    let k = kind_at diskTable a.c.method in
+    let f = figures_of a.used a.promised a.state in
+    let k = kind_at disk_table a.c.method in
     let add = sym d.is-add.ensures ∙ w.before.if1.true in
-    let e = pre-adds f a.now a.adds a.c k add (rw w.written.ensures at l.if2.false) in
+    let e = pre_adds f a.now a.adds a.c k add (rw w.written.ensures at l.if2.false) in
     rw (
       u.size.ensures.0,
       to_z-of_z (sfits_of u.before.struct_told.given.0.1),
@@ -42,40 +42,40 @@ returns-2 c =
     (sym e)
 
 returns-3 : tie.Need-returns-3
-unfolding preOf
+unfolding pre_of
 returns-3 c =
     let t = c.before in
     let r = t.before.before.before in
     let a = r.before.before.before.args in
-    let f = figuresOf a.used a.promised a.state in
-    let k = kind_at diskTable a.c.method in
+    let f = figures_of a.used a.promised a.state in
+    let k = kind_at disk_table a.c.method in
     let reading = sym r.is-reading.ensures ∙ t.before.before.if3.true in
-    sym (pre-carries f a.now a.adds a.c k reading (rw t.carried.ensures.0 at c.if4.true))
+    sym (pre_carries f a.now a.adds a.c k reading (rw t.carried.ensures.0 at c.if4.true))
 
 returns-4 : tie.Need-returns-4
-unfolding preOf
+unfolding pre_of
 returns-4 c =
     let l = c.before in
     let t = l.before in
     let r = t.before.before.before in
     let a = r.before.before.before.args in
-    let f = figuresOf a.used a.promised a.state in
-    let k = kind_at diskTable a.c.method in
+    let f = figures_of a.used a.promised a.state in
+    let k = kind_at disk_table a.c.method in
     let reading = sym r.is-reading.ensures ∙ t.before.before.if3.true in
-    let e = pre-reads f a.now a.adds a.c k reading (rw t.carried.ensures.0 at l.if4.false) in
+    let e = pre_reads f a.now a.adds a.c k reading (rw t.carried.ensures.0 at l.if4.false) in
     rw c.fresh.ensures (sym e)
 
 returns-5 : tie.Need-returns-5
-unfolding preOf
+unfolding pre_of
 returns-5 c =
     let r = c.before in
     let d = r.before.before in
     let a = d.before.args in
-    let f = figuresOf a.used a.promised a.state in
-    let k = kind_at diskTable a.c.method in
+    let f = figures_of a.used a.promised a.state in
+    let k = kind_at disk_table a.c.method in
     let reading = sym r.is-reading.ensures ∙ c.if3.false in
     let add = sym d.is-add.ensures ∙ r.before.if1.false in
-    sym (pre-sets f a.now a.adds a.c k reading add)
+    sym (pre_sets f a.now a.adds a.c k reading add)
 
 pub preconditions-spec : {M : Type 1} → statement M
 preconditions-spec =

@@ -8,12 +8,12 @@ use mir.Facts.{to_z-of_z}
 use mir.Syntax.{w64}
 use mir.Val.{SFits, to_z, of_z}
 use Rattle.num.specs.Fits.{size_fits}
-use Rattle.num.specs.Metric.{size, size-add}
-use Rattle.law.specs.DiskType.{diskTable}
+use Rattle.num.specs.Metric.{size, size_add}
+use Rattle.law.specs.DiskType.{disk_table}
 use Rattle.law.specs.Entries.{kind_at}
-use Rattle.law.specs.Granting.{toldBy}
-use Rattle.rules.specs.Methods.{figuresOf}
-use Rattle.rules.proofs.MethodLaws.{told_of}
+use Rattle.law.specs.Granting.{told_by}
+use Rattle.rules.specs.Methods.{figures_of}
+use Rattle.rules.proofs.MethodLaws.{told_of_lem}
 use Rattle.rules.proofs.figures.told.Statement.{statement}
 use Rattle.rules.proofs.figures.told.Tie as tie
 
@@ -28,29 +28,29 @@ add-result : tie.Need-overflow-add-result
 add-result c =
     let a = c.before.before.before.signed-if-read.result in
     let b = c.signed-if-read2.result in
-    rw (sum_back a b (omega arith)) (fits (a +ℤ b) (omega (arith, size-add a b)))
+    rw (sum_back a b (omega arith)) (fits (a +ℤ b) (omega (arith, size_add a b)))
 
 add-result-2 : tie.Need-overflow-add-result-2
 add-result-2 c =
     let a = c.before.before.before.before.before.before.signed-if-read.result in
     let b = c.before.before.before.signed-if-read2.result in
     let d = c.signed-if-read3.result in
-    let two = size-add a b in
-    rw (sum_back a b (omega arith), sum_back (a +ℤ b) d (omega arith)) (fits (a +ℤ b +ℤ d) (omega (arith, size-add (a +ℤ b) d)))
+    let two = size_add a b in
+    rw (sum_back a b (omega arith), sum_back (a +ℤ b) d (omega arith)) (fits (a +ℤ b +ℤ d) (omega (arith, size_add (a +ℤ b) d)))
 
 returns : tie.Need-returns
 returns c =
     let c1 = c.before.before.before.before.before.before in
     let c2 = c.before.before.before in
     let s = c1.before.before.before.before in
-    let f = figuresOf s.args.used s.args.promised s.args.state in
+    let f = figures_of s.args.used s.args.promised s.args.state in
     let a = c1.signed-if-read.result in
     let b = c2.signed-if-read2.result in
     let d = c.signed-if-read3.result in
-    let two = size-add a b in
-    let small : size (a +ℤ b +ℤ d) ≤ 6442450944 = omega (arith, size-add (a +ℤ b) d) in
+    let two = size_add a b in
+    let small : size (a +ℤ b +ℤ d) ≤ 6442450944 = omega (arith, size_add (a +ℤ b) d) in
     let back = to_z-of_z (fits (a +ℤ b +ℤ d) small) in
-    let told : a +ℤ b +ℤ d ≡ toldBy f (kind_at diskTable s.args.m) =
+    let told : a +ℤ b +ℤ d ≡ told_by f (kind_at disk_table s.args.m) =
     rw (
       c1.signed-if-read.ensures.0,
       to_z-of_z (sfits_of c1.before.struct_told.given.0.1),
@@ -63,7 +63,7 @@ returns c =
       c.before.before.bit3.ensures,
       c1.before.before.before.reads.ensures,
     )
-    (told_of f s.args.m)
+    (told_of_lem f s.args.m)
     in
     rw (sum_back a b (omega arith), sum_back (a +ℤ b) d (omega arith), back) (told, small)
 

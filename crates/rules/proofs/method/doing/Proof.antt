@@ -1,11 +1,11 @@
 -- Each word is that of its three masks.
 use borrow.Author.Rules.{rules}
-use Rattle.rules.specs.Masks.{masksBy}
+use Rattle.rules.specs.Masks.{masks_by}
 use Rattle.rules.proofs.method.doing.Statement.{statement}
 use Rattle.rules.proofs.method.doing.Tie as tie
 
 returns : tie.Need-returns
-unfolding masksBy
+unfolding masks_by
 returns c = rw (c.word3.ensures, c.before.word2.ensures, c.before.before.word.ensures)
 
 pub doing-spec : {M : Type 1} → statement M

@@ -2,13 +2,13 @@
 use borrow.Author.Rules.{rules}
 use native.Mathlib.Omega.{arith}
 use mir.Facts.{to_z-of_z}
-use Rattle.rules.specs.Pairs.{addOf}
+use Rattle.rules.specs.Pairs.{add_of}
 use Rattle.rules.proofs.EntryLaws.{add_is}
 use Rattle.rules.proofs.pair.add_part.Statement.{statement}
 use Rattle.rules.proofs.pair.add_part.Tie as tie
 
 returns : tie.Need-returns
-unfolding addOf
+unfolding add_of
 returns c =
     let k = c.before.before in
     let x = k.before.before.args.x in
@@ -16,7 +16,7 @@ returns c =
     (rw (← add_is x.method, ← k.before.is-add.ensures, k.if1.true) e, c.size.ensures.1)
 
 returns-2 : tie.Need-returns-2
-unfolding addOf
+unfolding add_of
 returns-2 c =
     let x = c.before.before.args.x in
     (rw (← add_is x.method, ← c.before.is-add.ensures, c.if1.false), omega arith)

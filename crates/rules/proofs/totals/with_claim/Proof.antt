@@ -1,7 +1,7 @@
 -- Each figure is joined with that of the claim.
 use borrow.Author.Rules.{rules}
 use native.Mathlib.Omega.{arith}
-use Rattle.rules.specs.Totals.{withClaim}
+use Rattle.rules.specs.Totals.{with_claim}
 use Rattle.rules.proofs.totals.with_claim.Statement.{statement}
 use Rattle.rules.proofs.totals.with_claim.Tie as tie
 
@@ -9,7 +9,7 @@ add-sum : tie.Need-overflow-add-sum
 add-sum c = record { fits = omega (arith, c.before.before.requires, c.before.add-part.ensures.1) }
 
 returns : tie.Need-returns
-unfolding withClaim
+unfolding with_claim
 returns c =
     let k = c.before.before in
     rw (k.masks-of.ensures, k.before.before.add-part.ensures.0)

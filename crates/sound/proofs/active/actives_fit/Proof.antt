@@ -9,28 +9,28 @@ use native.Mathlib.Omega.{arith}
 use mir.Facts.{to_z-of_z}
 use lib.ListN.{length, drop, get_or}
 use Rattle.law.specs.declared.Claim.{Claim}
-use Rattle.law.specs.Base.{everyOf}
+use Rattle.law.specs.Base.{every_of}
 use Rattle.law.specs.Lists.{never_true}
-use Rattle.law.specs.Types.{mostValue, Disk}
+use Rattle.law.specs.Types.{most_value, Disk}
 use Rattle.rules.specs.declared.totals.Totals.{Totals}
-use Rattle.rules.specs.Totals.{noTotals, totalsFrom, totalsOf}
-use Rattle.rules.specs.Disks.{figuresIn}
+use Rattle.rules.specs.Totals.{no_totals, totals_from, totals_of}
+use Rattle.rules.specs.Disks.{figures_in}
 use Rattle.rules.proofs.TotalsLaws.{sum_is}
 use Rattle.part.specs.Layout.{decode}
 use Rattle.part.specs.Held.{held}
-use Rattle.sound.specs.Tests.{activeFits, activeBy, eachActive, everyMeets, sumTest, activesFront, activesTests, activesFit}
-use Rattle.sound.specs.Seen.{Ready, marksFrom, marksOf}
-use Rattle.sound.proofs.TestLaws.{failed, went, test-fails, test-last}
-use Rattle.sound.proofs.WalkLaws.{none_left, each_on, each-not}
+use Rattle.sound.specs.Tests.{active_fits, active_by, each_active, every_meets, sum_test, actives_front, actives_tests, actives_fit}
+use Rattle.sound.specs.Seen.{Ready, marks_from, marks_of}
+use Rattle.sound.proofs.TestLaws.{failed, went, test_fails, test_last}
+use Rattle.sound.proofs.WalkLaws.{none_left, each_on, each_not}
 use Rattle.sound.proofs.AloneLaws.{add_most}
-use Rattle.sound.proofs.MarkLaws.{marks-on, marks-end}
-use Rattle.sound.proofs.MeetLaws.{meetFrom, sum-on, totals-on, meet-on, meet-not, totals-end, meets-is}
-use Rattle.sound.proofs.DiskLaws.{actives, some-active, few-active, active-turn, active-by, ready-bounds}
+use Rattle.sound.proofs.MarkLaws.{marks_on, marks_end}
+use Rattle.sound.proofs.MeetLaws.{meet_from, sum_on, totals_on, meet_on, meet_not, totals_end, meets_is}
+use Rattle.sound.proofs.DiskLaws.{actives, some_active, few_active_lem, active_turn, active_by_lem, ready_bounds}
 use Rattle.sound.proofs.active.actives_fit.Statement.{statement}
 use Rattle.sound.proofs.active.actives_fit.Tie as tie
 
 abbrev fit : List ℕ → Claim → Bool
-fit s = activeFits (figuresIn (decode s)) (decode s).clock (decode s).next
+fit s = active_fits (figures_in (decode s)) (decode s).clock (decode s).next
 
 -- The active claims from i on.
 abbrev left : List ℕ → ℕ → List Claim
@@ -39,11 +39,11 @@ left s i = drop i (actives s)
 abbrev Inv : tie.invariant-loop
 Inv s most next n none unmarked totals₀ marks₀ i₀ totals marks i =
     (i ≤ n)
-    × (totals.sum ≤ i * mostValue)
-    × (everyOf (fit s) (left s i) ≡ everyOf (fit s) (left s 0))
-    × (meetFrom totals (left s i) ≡ meetFrom noTotals (left s 0))
-    × (totalsFrom totals (left s i) ≡ totalsOf (left s 0))
-    × (marksFrom marks (left s i) ≡ marksOf (left s 0))
+    × (totals.sum ≤ i * most_value)
+    × (every_of (fit s) (left s i) ≡ every_of (fit s) (left s 0))
+    × (meet_from totals (left s i) ≡ meet_from no_totals (left s 0))
+    × (totals_from totals (left s i) ≡ totals_of (left s 0))
+    × (marks_from marks (left s i) ≡ marks_of (left s 0))
 
 abbrev μ : tie.decreases-loop
 μ s most next n none unmarked totals₀ marks₀ i₀ totals marks i = n - i
@@ -63,14 +63,14 @@ module _ (l : tie.At-loop Inv μ) where
   ready = start.pre
 
   count : read.actives-at.result ≡ length (actives part)
-  count = read.actives-at.ensures ∙ some-active ready.disk
+  count = read.actives-at.ensures ∙ some_active ready.disk
 
   few : length (actives part) ≤ 8
-  few = few-active ready.disk
+  few = few_active_lem ready.disk
 
   fits : (x : Claim) →
-      activeBy start.args.most.now read.before.next-at.result x ≡ fit part x
-  fits = active-by ready _ read.before.next-at.ensures
+      active_by start.args.most.now read.before.next-at.result x ≡ fit part x
+  fits = active_by_lem ready _ read.before.next-at.ensures
 
 -- In a turn: the claim at i, and those behind it.
 module _ (a : tie.After-active-at Inv μ) where
@@ -78,7 +78,7 @@ module _ (a : tie.After-active-at Inv μ) where
   walk = a.before.before
 
   here : left (part walk) walk.loop.i ≡ a.active-at.result ∷ left (part walk) (walk.loop.i + 1)
-  here = active-turn (ready walk).disk _ _ refl (omega (arith, a.before.loop-test.taken, count walk)) a.active-at.ensures
+  here = active_turn (ready walk).disk _ _ refl (omega (arith, a.before.loop-test.taken, count walk)) a.active-at.ensures
 
 -- From where a claim is let in by those before it, where it is read.
 abbrev at_turn : tie.Else2 Inv μ → tie.After-active-at Inv μ
@@ -92,22 +92,22 @@ module _ (e : tie.After-loop Inv μ) where
   none : left (part done) done.loop.i ≡ []
   none = none_left (actives (part done)) done.loop.i (omega (arith, e.loop-test.left, count done))
 
-  each-is : eachActive (held (part done)) ≡ true
-  each-is = sym done.loop.inv.2 ∙ ap (everyOf (fit (part done))) none
+  each-is : each_active (held (part done)) ≡ true
+  each-is = sym done.loop.inv.2 ∙ ap (every_of (fit (part done))) none
 
-  meets-are : everyMeets (held (part done)) ≡ true
-  meets-are = sym (meets-is (actives (part done))) ∙ sym done.loop.inv.3 ∙ (totals-end done.loop.totals none).1
+  meets-are : every_meets (held (part done)) ≡ true
+  meets-are = sym (meets_is (actives (part done))) ∙ sym done.loop.inv.3 ∙ (totals_end done.loop.totals none).1
 
-  totals-is : done.loop.totals ≡ totalsOf (actives (part done))
-  totals-is = sym (totals-end done.loop.totals none).0 ∙ done.loop.inv.4
+  totals-is : done.loop.totals ≡ totals_of (actives (part done))
+  totals-is = sym (totals_end done.loop.totals none).0 ∙ done.loop.inv.4
 
-  marks-is : done.loop.marks ≡ marksOf (actives (part done))
-  marks-is = sym (marks-end done.loop.marks none) ∙ done.loop.inv.5
+  marks-is : done.loop.marks ≡ marks_of (actives (part done))
+  marks-is = sym (marks_end done.loop.marks none) ∙ done.loop.inv.5
 
 -- A test has failed: what is handed on is not looked at.
-wrong : (d : Disk) (j : ℕ) {P Q : Type 0} → get_or (activesTests d) j true ≡ false →
-    (false ≡ activesFit d) × ((false ≡ true → P) × (false ≡ true → Q))
-wrong d j e = (test-fails (activesTests d) j e, ((λ t. never_true _ t), λ t. never_true _ t))
+wrong : (d : Disk) (j : ℕ) {P Q : Type 0} → get_or (actives_tests d) j true ≡ false →
+    (false ≡ actives_fit d) × ((false ≡ true → P) × (false ≡ true → Q))
+wrong d j e = (test_fails (actives_tests d) j e, ((λ t. never_true _ t), λ t. never_true _ t))
 
 loop-holds : tie.Need-loop-init Inv μ
 loop-holds c = rw (c.no-marks.ensures, c.before.no-totals.ensures) (omega arith, omega arith, refl, refl, refl, refl)
@@ -118,7 +118,7 @@ active-at-requires c κs =
     ((ready l).disk.long, omega (arith, c.loop-test.true, count l, few l))
 
 active-fits-requires : tie.Need-active-fits-requires Inv μ
-active-fits-requires c κs = ready-bounds (ready (walk c))
+active-fits-requires c κs = ready_bounds (ready (walk c))
 
 returns : tie.Need-returns Inv μ
 returns c =
@@ -126,7 +126,7 @@ returns c =
     let l = walk a in
     let s = part l in
     wrong (held s) 0
-    (sym l.loop.inv.2 ∙ each-not (here a) (fit s) (failed (c.before.active-fits.ensures ∙ fits l _) c.if1.true))
+    (sym l.loop.inv.2 ∙ each_not (here a) (fit s) (failed (c.before.active_fits_lem.ensures ∙ fits l _) c.if1.true))
 
 returns-2 : tie.Need-returns-2 Inv μ
 returns-2 c =
@@ -134,7 +134,7 @@ returns-2 c =
     let a = k.before.before.before in
     let l = walk a in
     wrong (held (part l)) 1
-    (sym (meets-is (actives (part l))) ∙ sym l.loop.inv.3 ∙ meet-not l.loop.totals (here a) (sym k.keep_out.ensures ∙ c.if2.true))
+    (sym (meets_is (actives (part l))) ∙ sym l.loop.inv.3 ∙ meet_not l.loop.totals (here a) (sym k.keep_out.ensures ∙ c.if2.true))
 
 with-claim-requires : tie.Need-with-claim-requires Inv μ
 with-claim-requires c κs =
@@ -161,13 +161,13 @@ loop-again c =
     let t = l.loop.totals in
     let m = here a in
     let sum = w.with-claim.ensures in
-    let ok : fit s a.active-at.result ≡ true = went (passed.before.active-fits.ensures ∙ fits l _) passed.if1.false in (
+    let ok : fit s a.active-at.result ≡ true = went (passed.before.active_fits_lem.ensures ∙ fits l _) passed.if1.false in (
       omega (arith, a.before.loop-test.taken),
-      omega (arith, l.loop.inv.1, sum-on t m sum, add_most _ _ _ _ ok),
+      omega (arith, l.loop.inv.1, sum_on t m sum, add_most _ _ _ _ ok),
       each_on m (fit s) ok ∙ l.loop.inv.2,
-      meet-on t m sum (sym let-in.before.keep_out.ensures ∙ let-in.if2.false) ∙ l.loop.inv.3,
-      totals-on t m sum ∙ l.loop.inv.4,
-      marks-on l.loop.marks m c.with-ticket.ensures ∙ l.loop.inv.5,
+      meet_on t m sum (sym let-in.before.keep_out.ensures ∙ let-in.if2.false) ∙ l.loop.inv.3,
+      totals_on t m sum ∙ l.loop.inv.4,
+      marks_on l.loop.marks m c.with-ticket.ensures ∙ l.loop.inv.5,
     )
 
 promised-at-requires : tie.Need-promised-at-requires Inv μ
@@ -186,7 +186,7 @@ returns-3 c =
     let d = held (part (done e)) in
     let v = rw (to_z-of_z (record { sfits = z.before.struct_told.given.0.1 })) at z.size.ensures.0 in (
       rw (v, ap (λ (t : Totals). t.sum) (totals-is e) ∙ sum_is d.core.active, p.promised-at.ensures)
-          (test-last (activesFront d) (sumTest d) (each-is e, (meets-are e, tt))),
+          (test_last (actives_front d) (sum_test d) (each-is e, (meets-are e, tt))),
       ((λ h. totals-is e), (λ h. marks-is e)),
     )
 

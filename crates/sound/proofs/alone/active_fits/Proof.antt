@@ -9,22 +9,22 @@ use mir.Facts.{to_z-of_z}
 use lib.Dec.{leb}
 use lib.ListN.{get_or}
 use Rattle.num.specs.Metric.{size}
-use Rattle.law.specs.Types.{mostError}
+use Rattle.law.specs.Types.{most_error}
 use Rattle.law.specs.Entries.{kind_of}
 use Rattle.law.specs.Says.{◌and◌}
-use Rattle.law.specs.DiskType.{diskTable}
-use Rattle.sound.specs.Tests.{ifReading, activeFront, amountTest, activeBy}
-use Rattle.sound.proofs.TestLaws.{failed, went, test-fails, test-last, above, within}
+use Rattle.law.specs.DiskType.{disk_table}
+use Rattle.sound.specs.Tests.{if_reading, active_front, amount_test, active_by}
+use Rattle.sound.proofs.TestLaws.{failed, went, test_fails, test_last, above, within}
 use Rattle.sound.proofs.AloneLaws.{known_method}
 use Rattle.sound.proofs.alone.active_fits.Statement.{statement}
 use Rattle.sound.proofs.alone.active_fits.Tie as tie
 
 -- At the start: the tests but the last, and all.
 abbrev front : tie.Start → List Bool
-front s = let a = s.args in activeFront a.most.now a.next a.c
+front s = let a = s.args in active_front a.most.now a.next a.c
 
 abbrev tests : tie.Start → List Bool
-tests s = front s ++ (amountTest s.args.c ∷ [])
+tests s = front s ++ (amount_test s.args.c ∷ [])
 
 -- From behind the tests of the claim: the start; its method is known, so each row has a place for it.
 abbrev start : tie.Else1 → tie.Start
@@ -40,30 +40,30 @@ size_is : (c : tie.After-size) → c.size.result ≡ size (start (at_told c)).ar
 size_is c = rw (to_z-of_z (record { sfits = c.before.struct_told.given.1.1.1.1.1.1.1.0.1 })) at c.size.ensures.0
 
 -- The bound of the told sum.
-bound : (k : tie.Else1) → let a = (start k).args in get_or a.most.now (28 + a.c.method) 0 ≡ ifReading (kind_of diskTable a.c) mostError 0
+bound : (k : tie.Else1) → let a = (start k).args in get_or a.most.now (28 + a.c.method) 0 ≡ if_reading (kind_of disk_table a.c) most_error 0
 bound k = (start k).requires.tolds (start k).args.c.method (method k)
 
 returns : tie.Need-returns
-unfolding activeBy
-returns c = test-fails (tests c.before.before.before) 0 (failed c.before.alone.ensures c.if1.true)
+unfolding active_by
+returns c = test_fails (tests c.before.before.before) 0 (failed c.before.alone.ensures c.if1.true)
 
 shared-slice-read-if2 : tie.Need-shared-slice-read-if2
 shared-slice-read-if2 c = let k = c.before.before in omega (arith, method k, (start k).requires.long)
 
 returns-2 : tie.Need-returns-2
-unfolding activeBy
+unfolding active_by
 returns-2 c =
     let k = at_told c.before in
-    test-fails (tests (start k)) 1 (above _ _ _ _ (size_is c.before) (bound k) c.if2.true)
+    test_fails (tests (start k)) 1 (above _ _ _ _ (size_is c.before) (bound k) c.if2.true)
 
 returns-3 : tie.Need-returns-3
-unfolding activeBy
+unfolding active_by
 returns-3 c =
     let told = c.before.before in
     let k = at_told told.before in
     let s = start k in
     ap (leb s.args.c.amount) c.before.if-reading.ensures
-    ∙ test-last (front s) (amountTest s.args.c)
+    ∙ test_last (front s) (amount_test s.args.c)
     (went k.before.alone.ensures k.if1.left and within _ _ _ _ (size_is told.before) (bound k) told.if2.false and tt)
 
 pub active-fits-spec : {M : Type 1} → statement M

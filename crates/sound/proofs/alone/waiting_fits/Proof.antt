@@ -8,14 +8,14 @@ use mir.Facts.{to_z-of_z}
 use lib.Dec.{eqb}
 use Rattle.num.specs.Metric.{size}
 use Rattle.law.specs.Says.{◌and◌}
-use Rattle.sound.specs.Tests.{waitingFront, waitingBy}
-use Rattle.sound.proofs.TestLaws.{failed, went, test-fails, test-last}
+use Rattle.sound.specs.Tests.{waiting_front, waiting_by}
+use Rattle.sound.proofs.TestLaws.{failed, went, test_fails, test_last}
 use Rattle.sound.proofs.alone.waiting_fits.Statement.{statement}
 use Rattle.sound.proofs.alone.waiting_fits.Tie as tie
 
 -- At the start: the tests but the last, and all.
 abbrev front : tie.Start → List Bool
-front s = let a = s.args in waitingFront a.most.now a.next a.c
+front s = let a = s.args in waiting_front a.most.now a.next a.c
 
 abbrev tests : tie.Start → List Bool
 tests s = front s ++ (eqb s.args.c.amount 0 ∷ [])
@@ -24,22 +24,22 @@ size_is : (c : tie.After-size) → let a = c.before.before.before.before.before.
 size_is c = rw (to_z-of_z (record { sfits = c.before.struct_told.given.1.1.1.1.1.1.1.0.1 })) at c.size.ensures.0
 
 returns : tie.Need-returns
-unfolding waitingBy
-returns c = test-fails (tests c.before.before.before) 0 (failed c.before.alone.ensures c.if1.true)
+unfolding waiting_by
+returns c = test_fails (tests c.before.before.before) 0 (failed c.before.alone.ensures c.if1.true)
 
 returns-2 : tie.Need-returns-2
-unfolding waitingBy
+unfolding waiting_by
 returns-2 c =
-    test-fails (tests c.before.before.before.before.before.before) 1
+    test_fails (tests c.before.before.before.before.before.before) 1
     (ne_eqb _ _ (λ e. c.if2.true (size_is c.before ∙ e)))
 
 returns-3 : tie.Need-returns-3
-unfolding waitingBy
+unfolding waiting_by
 returns-3 c =
     let told = c.before in
     let alone = told.before.before.before in
     let s = alone.before.before.before in
-    test-last (front s) (eqb s.args.c.amount 0)
+    test_last (front s) (eqb s.args.c.amount 0)
     (went alone.before.alone.ensures alone.if1.false
     and eq-eqb _ _ (sym (size_is told.before) ∙ told.if2.false)
     and tt)

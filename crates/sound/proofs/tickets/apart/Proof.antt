@@ -8,10 +8,10 @@ use native.Mathlib.Omega.{arith}
 use borrow.Author.Tests.{eq-eqb, ne_eqb}
 use lib.ListN.{length, drop}
 use Rattle.law.specs.declared.Claim.{Claim}
-use Rattle.law.specs.Base.{everyOf, everyPair}
+use Rattle.law.specs.Base.{every_of, every_pair}
 use Rattle.sound.specs.Tests.{apart}
-use Rattle.sound.proofs.WalkLaws.{turn, none_left, each_on, each-not, pairs-on, pairs-not}
-use Rattle.sound.proofs.DiskLaws.{claims, some-claims, few-claims}
+use Rattle.sound.proofs.WalkLaws.{turn, none_left, each_on, each_not, pairs_on, pairs_not}
+use Rattle.sound.proofs.DiskLaws.{claims, some_claims, few_claims}
 use Rattle.sound.proofs.tickets.apart.Statement.{statement}
 use Rattle.sound.proofs.tickets.apart.Tie as tie
 
@@ -19,13 +19,13 @@ abbrev left : List ℕ → ℕ → List Claim
 left s i = drop i (claims s)
 
 abbrev Inv2 : tie.invariant-loop2
-Inv2 s n all i x j₀ j = everyOf (apart x) (left s j) ≡ everyOf (apart x) (left s (i + 1))
+Inv2 s n all i x j₀ j = every_of (apart x) (left s j) ≡ every_of (apart x) (left s (i + 1))
 
 abbrev μ2 : tie.decreases-loop2
 μ2 s n all i x j₀ j = all - j
 
 abbrev Inv : tie.invariant-loop
-Inv s n all i₀ i = everyPair apart (left s i) ≡ everyPair apart (left s 0)
+Inv s n all i₀ i = every_pair apart (left s i) ≡ every_pair apart (left s 0)
 
 abbrev μ : tie.decreases-loop
 μ s n all i₀ i = all - i
@@ -39,10 +39,10 @@ module _ (k : tie.After-waitings-at Inv2 μ2 Inv μ) where
   part = start.args.s.now
 
   count : k.before.actives-at.result + k.waitings-at.result ≡ length (claims part)
-  count = omega (arith, some-claims start.pre, k.before.actives-at.ensures, k.waitings-at.ensures)
+  count = omega (arith, some_claims start.pre, k.before.actives-at.ensures, k.waitings-at.ensures)
 
   few : length (claims part) ≤ 16
-  few = few-claims start.pre
+  few = few_claims start.pre
 
 -- In a turn of the outer walk: the claim at i, and those behind it.
 module _ (a : tie.After-claim-on Inv2 μ2 Inv μ) where
@@ -92,8 +92,8 @@ returns : tie.Need-returns Inv2 μ2 Inv μ
 returns c =
     let b = c.before.before.before in
     let a = (walk2 b).before in
-    let same = each-not (there b) (apart (x a)) (ap not (eq-eqb _ _ c.if1.true)) in
-    sym (pairs-not (here a) apart (sym (walk2 b).loop2.invariant ∙ same)) ∙ (walk a).loop.inv
+    let same = each_not (there b) (apart (x a)) (ap not (eq-eqb _ _ c.if1.true)) in
+    sym (pairs_not (here a) apart (sym (walk2 b).loop2.invariant ∙ same)) ∙ (walk a).loop.inv
 
 add-j-2 : tie.Need-overflow-add-j-2 Inv2 μ2 Inv μ
 add-j-2 c =
@@ -123,13 +123,13 @@ loop-again c =
     let a = w.before in
     let k = (walk a).before in
     let none = none_left (claims (part k)) w.loop2.j (omega (arith, c.loop2-test.false, count k)) in
-    pairs-on (here a) apart (sym w.loop2.invariant ∙ ap (everyOf (apart (x a))) none) ∙ (walk a).loop.invariant
+    pairs_on (here a) apart (sym w.loop2.invariant ∙ ap (every_of (apart (x a))) none) ∙ (walk a).loop.invariant
 
 returns-2 : tie.Need-returns-2 Inv2 μ2 Inv μ
 returns-2 c =
     let l = c.before in
     let k = l.before in
-    sym (ap (everyPair apart) (none_left (claims (part k)) l.loop.i (omega (arith, c.loop-test.false, count k)))) ∙ l.loop.invariant
+    sym (ap (every_pair apart) (none_left (claims (part k)) l.loop.i (omega (arith, c.loop-test.false, count k)))) ∙ l.loop.invariant
 
 pub apart-spec : {M : Type 1} → statement M
 apart-spec =

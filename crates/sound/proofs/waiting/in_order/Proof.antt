@@ -8,8 +8,8 @@ use lib.ListN.{length, drop}
 use Rattle.law.specs.declared.Claim.{Claim}
 use Rattle.law.specs.Calls.{before}
 use Rattle.sound.proofs.TestLaws.{failed, went}
-use Rattle.sound.proofs.WalkLaws.{neighbours, next-on, next-not, next-end, order_is}
-use Rattle.sound.proofs.DiskLaws.{waitings, some-waiting, few-waiting, waiting-turn}
+use Rattle.sound.proofs.WalkLaws.{neighbours, next_on_lem, next_not, next_end, order_is}
+use Rattle.sound.proofs.DiskLaws.{waitings, some_waiting, few_waiting_lem, waiting_turn}
 use Rattle.sound.proofs.waiting.in_order.Statement.{statement}
 use Rattle.sound.proofs.waiting.in_order.Tie as tie
 
@@ -32,10 +32,10 @@ module _ (l : tie.At-loop Inv μ) where
   part = start.args.s.now
 
   count : l.before.waitings-at.result ≡ length (waitings part)
-  count = l.before.waitings-at.ensures ∙ some-waiting start.pre
+  count = l.before.waitings-at.ensures ∙ some_waiting start.pre
 
   few : length (waitings part) ≤ 8
-  few = few-waiting start.pre
+  few = few_waiting_lem start.pre
 
 -- In a turn: two neighbours, and whether they are in order.
 module _ (b : tie.After-before2 Inv μ) where
@@ -53,11 +53,11 @@ module _ (b : tie.After-before2 Inv μ) where
 
   front : left (part walk) (i - 1) ≡ second.before.waiting-at.result ∷ left (part walk) i
   front =
-      waiting-turn (start walk).pre (i - 1) i (omega (arith, walk.loop.inv.0)) (omega (arith, test.loop-test.taken, count walk))
+      waiting_turn (start walk).pre (i - 1) i (omega (arith, walk.loop.inv.0)) (omega (arith, test.loop-test.taken, count walk))
       second.before.waiting-at.ensures
 
   back : left (part walk) i ≡ second.waiting-at2.result ∷ left (part walk) (i + 1)
-  back = waiting-turn (start walk).pre _ _ refl (omega (arith, test.loop-test.taken, count walk)) second.waiting-at2.ensures
+  back = waiting_turn (start walk).pre _ _ refl (omega (arith, test.loop-test.taken, count walk)) second.waiting-at2.ensures
 
 loop-holds : tie.Need-loop-init Inv μ
 loop-holds c = (omega arith, refl)
@@ -79,7 +79,7 @@ returns : tie.Need-returns Inv μ
 returns c =
     let b = c.before in
     let l = walk b in
-    sym (next-not before (front b) (back b) (failed b.before2.ensures c.if1.true))
+    sym (next_not before (front b) (back b) (failed b.before2.ensures c.if1.true))
     ∙ l.loop.inv.1
     ∙ order_is (waitings (part l))
 
@@ -97,7 +97,7 @@ loop-again c =
     let same : i b + 1 - 1 ≡ i b = omega arith in (
       omega arith,
       ap (λ (j : ℕ). neighbours before (left (part (walk b)) j)) same
-          ∙ next-on before (front b) (back b) (went b.before2.ensures c.if1.false)
+          ∙ next_on_lem before (front b) (back b) (went b.before2.ensures c.if1.false)
           ∙ (walk b).loop.invariant.1,
     )
 
@@ -105,7 +105,7 @@ returns-2 : tie.Need-returns-2 Inv μ
 returns-2 c =
     let l = c.before in
     let ws = waitings (part l) in
-    sym (next-end before ws (l.loop.i - 1) (omega (arith, c.loop-test.false, count l))) ∙ l.loop.invariant.1 ∙ order_is ws
+    sym (next_end before ws (l.loop.i - 1) (omega (arith, c.loop-test.false, count l))) ∙ l.loop.invariant.1 ∙ order_is ws
 
 pub in-order-spec : {M : Type 1} → statement M
 in-order-spec =

@@ -7,21 +7,21 @@ use mathlib.Core.Path.{◌≡◌, refl, sym, ap, ◌∙◌}
 use native.Mathlib.Omega.{arith}
 use lib.ListN.{length, drop}
 use Rattle.law.specs.declared.Claim.{Claim}
-use Rattle.law.specs.Base.{everyOf}
+use Rattle.law.specs.Base.{every_of}
 use Rattle.law.specs.Lists.{never_true}
-use Rattle.rules.specs.Disks.{figuresIn}
+use Rattle.rules.specs.Disks.{figures_in}
 use Rattle.part.specs.Layout.{decode}
-use Rattle.sound.specs.Tests.{waitingFits, waitingBy}
-use Rattle.sound.specs.Seen.{Ready, marksFrom}
+use Rattle.sound.specs.Tests.{waiting_fits, waiting_by}
+use Rattle.sound.specs.Seen.{Ready, marks_from}
 use Rattle.sound.proofs.TestLaws.{failed, went}
-use Rattle.sound.proofs.WalkLaws.{none_left, each_on, each-not}
-use Rattle.sound.proofs.MarkLaws.{marks-on, marks-end}
-use Rattle.sound.proofs.DiskLaws.{waitings, some-waiting, few-waiting, waiting-turn, waiting-by, ready-bounds}
+use Rattle.sound.proofs.WalkLaws.{none_left, each_on, each_not}
+use Rattle.sound.proofs.MarkLaws.{marks_on, marks_end}
+use Rattle.sound.proofs.DiskLaws.{waitings, some_waiting, few_waiting_lem, waiting_turn, waiting_by_lem, ready_bounds}
 use Rattle.sound.proofs.waiting.waitings_fit.Statement.{statement}
 use Rattle.sound.proofs.waiting.waitings_fit.Tie as tie
 
 abbrev fit : List ℕ → Claim → Bool
-fit s = waitingFits (figuresIn (decode s)) (decode s).clock (decode s).next
+fit s = waiting_fits (figures_in (decode s)) (decode s).clock (decode s).next
 
 -- The waiting claims from i on.
 abbrev left : List ℕ → ℕ → List Claim
@@ -29,7 +29,7 @@ left s i = drop i (waitings s)
 
 abbrev Inv : tie.invariant-loop
 Inv s most marks next n all₀ i₀ all i =
-    (everyOf (fit s) (left s i) ≡ everyOf (fit s) (left s 0)) × (marksFrom all (left s i) ≡ marksFrom marks (left s 0))
+    (every_of (fit s) (left s i) ≡ every_of (fit s) (left s 0)) × (marks_from all (left s i) ≡ marks_from marks (left s 0))
 
 abbrev μ : tie.decreases-loop
 μ s most marks next n all₀ i₀ all i = n - i
@@ -49,14 +49,14 @@ module _ (l : tie.At-loop Inv μ) where
   ready = start.pre
 
   count : read.waitings-at.result ≡ length (waitings part)
-  count = read.waitings-at.ensures ∙ some-waiting ready.disk
+  count = read.waitings-at.ensures ∙ some_waiting ready.disk
 
   few : length (waitings part) ≤ 8
-  few = few-waiting ready.disk
+  few = few_waiting_lem ready.disk
 
   fits : (x : Claim) →
-      waitingBy start.args.most.now read.before.next-at.result x ≡ fit part x
-  fits = waiting-by ready _ read.before.next-at.ensures
+      waiting_by start.args.most.now read.before.next-at.result x ≡ fit part x
+  fits = waiting_by_lem ready _ read.before.next-at.ensures
 
 -- In a turn: the claim at i, and those behind it.
 module _ (a : tie.After-waiting-at Inv μ) where
@@ -64,7 +64,7 @@ module _ (a : tie.After-waiting-at Inv μ) where
   walk = a.before.before
 
   here : left (part walk) walk.loop.i ≡ a.waiting-at.result ∷ left (part walk) (walk.loop.i + 1)
-  here = waiting-turn (ready walk).disk _ _ refl (omega (arith, a.before.loop-test.taken, count walk)) a.waiting-at.ensures
+  here = waiting_turn (ready walk).disk _ _ refl (omega (arith, a.before.loop-test.taken, count walk)) a.waiting-at.ensures
 
 loop-holds : tie.Need-loop-init Inv μ
 loop-holds c = (refl, refl)
@@ -75,14 +75,14 @@ waiting-at-requires c κs =
     ((ready l).disk.long, omega (arith, c.loop-test.true, count l, few l))
 
 waiting-fits-requires : tie.Need-waiting-fits-requires Inv μ
-waiting-fits-requires c κs = ready-bounds (ready (walk c))
+waiting-fits-requires c κs = ready_bounds (ready (walk c))
 
 returns : tie.Need-returns Inv μ
 returns c =
     let a = c.before.before in
     let l = walk a in
     let s = part l in (
-      sym (each-not (here a) (fit s) (failed (c.before.waiting-fits.ensures ∙ fits l _) c.if1.true)) ∙ l.loop.inv.0,
+      sym (each_not (here a) (fit s) (failed (c.before.waiting_fits_lem.ensures ∙ fits l _) c.if1.true)) ∙ l.loop.inv.0,
       λ h. never_true _ h,
     )
 
@@ -99,15 +99,15 @@ loop-again c =
     let passed = c.before in
     let a = passed.before.before in
     let l = walk a in (
-      each_on (here a) (fit (part l)) (went (passed.before.waiting-fits.ensures ∙ fits l _) passed.if1.false) ∙ l.loop.inv.0,
-      marks-on l.loop.all (here a) c.with-ticket.ensures ∙ l.loop.inv.1,
+      each_on (here a) (fit (part l)) (went (passed.before.waiting_fits_lem.ensures ∙ fits l _) passed.if1.false) ∙ l.loop.inv.0,
+      marks_on l.loop.all (here a) c.with-ticket.ensures ∙ l.loop.inv.1,
     )
 
 returns-2 : tie.Need-returns-2 Inv μ
 returns-2 c =
     let l = c.before in
     let none : left (part l) l.loop.i ≡ [] = none_left (waitings (part l)) l.loop.i (omega (arith, c.loop-test.false, count l)) in
-    (sym (ap (everyOf (fit (part l))) none) ∙ l.loop.invariant.0, λ h. sym (marks-end l.loop.all none) ∙ l.loop.invariant.1)
+    (sym (ap (every_of (fit (part l))) none) ∙ l.loop.invariant.0, λ h. sym (marks_end l.loop.all none) ∙ l.loop.invariant.1)
 
 pub waitings-fit-spec : {M : Type 1} → statement M
 waitings-fit-spec =

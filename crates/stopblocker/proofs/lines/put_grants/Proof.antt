@@ -6,16 +6,16 @@ use mathlib.Core.Path.{◌≡◌, refl, sym, ap, ◌∙◌}
 use native.Mathlib.Omega.{arith}
 use lib.ListN.{length, length-append}
 use Rattle.num.specs.Runs.{splice}
-use Rattle.num.specs.RunLaws.{splice-none, splice-splice}
-use Rattle.stopblocker.specs.Lines.{line_of, isGrant, grantLines}
-use Rattle.stopblocker.specs.LineLaws.{IsPut, put-size, grant-most, grants-none, grants-more}
+use Rattle.num.specs.RunLaws.{splice_none, splice_splice}
+use Rattle.stopblocker.specs.Lines.{line_of, is_grant, grant_lines}
+use Rattle.stopblocker.specs.LineLaws.{IsPut, put_size, grant_most, grants_none, grants_more}
 use borrow.Author.Rules.{rules}
 use Rattle.stopblocker.proofs.lines.put_grants.Statement.{statement}
 use Rattle.stopblocker.proofs.lines.put_grants.Tie as tie
 
 module _ (l : List ℕ) (at number disk : ℕ) (a : List ℕ) where
   abbrev rest : ℕ → List ℕ
-  rest k = grantLines (9 - k) number disk a k
+  rest k = grant_lines (9 - k) number disk a k
 
   record Going (out : List ℕ) (to k : ℕ) : Type 0 where
     first : 1 ≤ k
@@ -27,35 +27,35 @@ module _ (l : List ℕ) (at number disk : ℕ) (a : List ℕ) where
   begun = record { first = omega arith; size = refl; place = refl; bytes = refl }
 
   -- There is room for the line of the next grant.
-  room : (out : List ℕ) (to k : ℕ) → Going out to k → isGrant a k ≡ true → at + length (rest 1) ≤ length l →
+  room : (out : List ℕ) (to k : ℕ) → Going out to k → is_grant a k ≡ true → at + length (rest 1) ≤ length l →
       to + length (43 ∷ line_of number disk a k) ≤ length out
   room out to k g h fits =
       omega (
         arith,
         g.place,
         g.size,
-        ap length (grants-more number disk a k h),
+        ap length (grants_more number disk a k h),
         length-append (43 ∷ line_of number disk a k) (rest (k + 1)),
       )
 
-  again : (out : List ℕ) (to k : ℕ) → Going out to k → isGrant a k ≡ true → (out' : List ℕ) (to' : ℕ) →
+  again : (out : List ℕ) (to k : ℕ) → Going out to k → is_grant a k ≡ true → (out' : List ℕ) (to' : ℕ) →
       IsPut out to (43 ∷ line_of number disk a k) to' out' → Going out' to' (k + 1)
   again out to k g h out' to' p =
       let line : List ℕ = 43 ∷ line_of number disk a k in
-      let e : rest k ≡ line ++ rest (k + 1) = grants-more number disk a k h in
+      let e : rest k ≡ line ++ rest (k + 1) = grants_more number disk a k h in
       record {
         first = omega arith;
-        size = put-size out to line p ∙ g.size;
+        size = put_size out to line p ∙ g.size;
         place = omega (arith, p.0, g.place, ap length e, length-append line (rest (k + 1)));
         bytes =
             ap (λ o. splice o to' (rest (k + 1))) p.1
-            ∙ (splice-splice out to to' line (rest (k + 1)) (sym p.0) ∙ (ap (splice out to) (sym e) ∙ g.bytes));
+            ∙ (splice_splice out to to' line (rest (k + 1)) (sym p.0) ∙ (ap (splice out to) (sym e) ∙ g.bytes));
       }
 
-  done : (out : List ℕ) (to k : ℕ) → Going out to k → isGrant a k ≡ false → IsPut l at (rest 1) to out
+  done : (out : List ℕ) (to k : ℕ) → Going out to k → is_grant a k ≡ false → IsPut l at (rest 1) to out
   done out to k g h =
-      let e : rest k ≡ [] = grants-none number disk a (9 - k) k h in
-      (omega (arith, g.place, ap length e), sym (splice-none out to) ∙ (ap (splice out to) (sym e) ∙ g.bytes))
+      let e : rest k ≡ [] = grants_none number disk a (9 - k) k h in
+      (omega (arith, g.place, ap length e), sym (splice_none out to) ∙ (ap (splice out to) (sym e) ∙ g.bytes))
 
 abbrev invariant-loop : tie.invariant-loop
 invariant-loop out₀ at number disk answer to₀ k₀ out to k = Going out₀ at number disk answer out to k
@@ -75,7 +75,7 @@ put-grant-requires c κs =
     let h = sym g.is-grant.ensures ∙ c.before.if1.true in (
       s.requires.0,
       (
-        grant-most a.answer.now p.loop.k h,
+        grant_most a.answer.now p.loop.k h,
         room a.out.now a.at a.number a.disk a.answer.now p.loop.out p.loop.to p.loop.k p.loop.invariant h s.requires.1,
       ),
     )
@@ -85,7 +85,7 @@ least : (c : tie.After-slice-known2 invariant-loop decreases-loop) → c.before.
 least c =
     let t = c.before.before.before.before in
     let p = t.before.before in
-    grant-most p.before.before.before.args.answer.now p.loop.k (sym t.before.is-grant.ensures ∙ t.if1.true)
+    grant_most p.before.before.before.args.answer.now p.loop.k (sym t.before.is-grant.ensures ∙ t.if1.true)
 
 add-k : tie.Need-overflow-add-k invariant-loop decreases-loop
 add-k c = omega (arith, least c)

@@ -3,7 +3,7 @@ use mathlib.Core.Path.{◌≡◌}
 use mir.Facts.{to_z-of_z}
 use mir.Syntax.{w32}
 use mir.Val.{to_z, of_z}
-use Rattle.stopblocker.specs.Lines.{figures, itemText}
+use Rattle.stopblocker.specs.Lines.{figures, item_text}
 use borrow.Author.Rules.{rules, sfits_of}
 use Rattle.stopblocker.proofs.lines.put_item.Statement.{statement}
 use Rattle.stopblocker.proofs.lines.put_item.Tie as tie
@@ -15,7 +15,7 @@ item-is : (c : tie.After-word-at3) →
     c.before.before.word-at2.result
     (to_z w32 (of_z w32 c.before.signed-at.result))
     c.word-at3.result
-    ≡ itemText
+    ≡ item_text
     c.before.before.before.before.before.before.args.answer.now
     c.before.before.before.before.before.before.args.k
 item-is c =
@@ -31,7 +31,7 @@ put-figures-requires : tie.Need-put-figures-requires
 put-figures-requires c κs = rw (item-is c.before) c.before.before.before.before.before.before.before.requires.1.1
 
 returns : tie.Need-returns
-returns c = rw (item-is c.before.before.before.before) at c.before.before.put-figures.ensures
+returns c = rw (item-is c.before.before.before.before) at c.before.before.put_figures.ensures
 
 pub put-item-spec : {M : Type 1} → statement M
 put-item-spec =

@@ -2,7 +2,7 @@
 use mathlib.Core.List.{[], ◌∷◌}
 use native.Mathlib.Omega.{arith}
 use mir.Facts.{to_z-of_z}
-use Rattle.stopblocker.specs.Text.{signedText}
+use Rattle.stopblocker.specs.Text.{signed_text}
 use Rattle.stopblocker.specs.LineLaws.{behind}
 use borrow.Author.Rules.{rules}
 use Rattle.stopblocker.proofs.lines.put_told.Statement.{statement}
@@ -20,7 +20,7 @@ returns c =
     let b = n.before.before.before.before in
     let s = b.before.before.before in
     let a = s.args in
-    behind a.out.now a.at (32 ∷ []) (signedText a.z) b.put_byte.ensures (rw (to_z-of_z s.ranges.z) at n.put-signed.ensures)
+    behind a.out.now a.at (32 ∷ []) (signed_text a.z) b.put_byte.ensures (rw (to_z-of_z s.ranges.z) at n.put-signed.ensures)
 
 pub put-told-spec : {M : Type 1} → statement M
 put-told-spec = tie.close (tie.spec (λ c κs. search rules) put-signed-requires (λ c. search rules) returns)

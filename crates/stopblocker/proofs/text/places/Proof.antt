@@ -5,7 +5,7 @@ use mathlib.Core.Path.{◌≡◌}
 use native.Mathlib.Nat.{eq-zero-or-pos, pow-zero, pow-suc}
 use native.Mathlib.Omega.{arith}
 use Rattle.stopblocker.specs.Text.{tenths, places}
-use Rattle.stopblocker.specs.TextLaws.{tenths-none, tenths-more}
+use Rattle.stopblocker.specs.TextLaws.{tenths_none, tenths_more}
 use Rattle.stopblocker.proofs.text.places.Statement.{statement}
 use Rattle.stopblocker.proofs.text.places.Tie as tie
 
@@ -27,7 +27,7 @@ again n k rest h p =
     let b : rest < 10 ^ suc (20 - (k + 1)) = rw e at h.1.1.0 in
     let t : k + tenths (suc (20 - (k + 1))) rest ≡ places n = rw e at h.1.1.1 in (
       omega arith,
-      (omega arith, (omega (arith, pow-suc 10 (20 - (k + 1))), omega (arith, t, tenths-more (20 - (k + 1)) rest p))),
+      (omega arith, (omega (arith, pow-suc 10 (20 - (k + 1))), omega (arith, t, tenths_more (20 - (k + 1)) rest p))),
     )
 
 abbrev invariant-loop : tie.invariant-loop
@@ -53,7 +53,7 @@ returns c =
     let s = c.before in
     let z : s.loop.rest ≡ 0 = omega arith in
     let t : s.loop.k + tenths (20 - s.loop.k) 0 ≡ places s.before.args.n = rw z at s.loop.invariant.1.1.1 in
-    omega (arith, t, tenths-none (20 - s.loop.k))
+    omega (arith, t, tenths_none (20 - s.loop.k))
 
 pub places-spec : {M : Type 1} → statement M
 places-spec = tie.close (tie.spec invariant-loop decreases-loop loop-holds add-k loop-less loop-again returns)

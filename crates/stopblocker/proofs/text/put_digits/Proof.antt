@@ -6,7 +6,7 @@ use native.Mathlib.Nat.{pow-zero, pow-suc, div-one, div-div-eq-div-mul}
 use native.Mathlib.Omega.{arith}
 use lib.ListN.{length, set, length-set}
 use Rattle.num.specs.Runs.{splice}
-use Rattle.num.specs.RunLaws.{splice-none}
+use Rattle.num.specs.RunLaws.{splice_none}
 use Rattle.stopblocker.specs.Text.{digits}
 use Rattle.stopblocker.specs.TextLaws.{digits-front, splice_front}
 use borrow.Author.Rules.{rules}
@@ -21,7 +21,7 @@ begun : (l : List ℕ) (end n : ℕ) → Put l end n end l n
 unfolding digits
 begun l end n =
     let e : end - end ≡ 0 = omega arith in
-    (omega arith, (rw (e, pow-zero 10, div-one n), rw e (sym (splice-none l end))))
+    (omega arith, (rw (e, pow-zero 10, div-one n), rw e (sym (splice_none l end))))
 
 again : (l : List ℕ) (end n i : ℕ) (out : List ℕ) (rest : ℕ) → Put l end n (suc i) out rest →
     Put l end n i (set out i (48 + rest % 10)) (rest / 10)

@@ -4,17 +4,17 @@ use mathlib.Core.Path.{◌≡◌, sym, ap, ◌∙◌}
 use native.Mathlib.Omega.{arith}
 use Rattle.num.specs.Runs.{splice}
 use Rattle.stopblocker.specs.Text.{digits, places, decimal}
-use Rattle.stopblocker.specs.TextLaws.{length-decimal}
+use Rattle.stopblocker.specs.TextLaws.{length_decimal}
 use borrow.Author.Rules.{rules}
 use Rattle.stopblocker.proofs.text.put_number.Statement.{statement}
 use Rattle.stopblocker.proofs.text.put_number.Tie as tie
 
 add-end : tie.Need-overflow-add-end
-add-end c = omega (arith, length-decimal c.before.before.args.n, c.places.ensures)
+add-end c = omega (arith, length_decimal c.before.before.args.n, c.places.ensures)
 
 put-digits-requires : tie.Need-put-digits-requires
 put-digits-requires c κs =
-    (omega arith, omega (arith, length-decimal c.before.before.before.args.n, c.before.places.ensures))
+    (omega arith, omega (arith, length_decimal c.before.before.before.args.n, c.before.places.ensures))
 
 returns : tie.Need-returns
 unfolding decimal
@@ -23,7 +23,7 @@ returns c =
     let p = d.before.before in
     let a = p.before.before.args in
     let e : a.at + p.places.result - a.at ≡ places a.n = omega (arith, p.places.ensures) in (
-      ap (λ k. a.at + k) (p.places.ensures ∙ sym (length-decimal a.n)),
+      ap (λ k. a.at + k) (p.places.ensures ∙ sym (length_decimal a.n)),
       d.put-digits.ensures ∙ ap (λ k. splice a.out.now a.at (digits k a.n)) e,
     )
 

@@ -5,20 +5,20 @@ use native.Mathlib.Omega.{arith}
 use mir.Facts.{to_z-of_z}
 use lib.ListN.{length}
 use Rattle.num.specs.Metric.{size}
-use Rattle.stopblocker.specs.Text.{decimal, signedText}
+use Rattle.stopblocker.specs.Text.{decimal, signed_text}
 use Rattle.stopblocker.specs.TextLaws.{signed_below, signed_above}
 use Rattle.stopblocker.specs.LineLaws.{behind}
 use borrow.Author.Rules.{rules}
 use Rattle.stopblocker.proofs.text.put_signed.Statement.{statement}
 use Rattle.stopblocker.proofs.text.put_signed.Tie as tie
 
-below : (c : tie.Then1) → signedText c.before.before.before.args.z ≡ 45 ∷ decimal c.before.size.result
+below : (c : tie.Then1) → signed_text c.before.before.before.args.z ≡ 45 ∷ decimal c.before.size.result
 below c =
     let f = c.before.before.before.ranges.z in
     let e : c.before.size.result ≡ size c.before.before.before.args.z = rw (to_z-of_z f) at c.before.size.ensures.0 in
     signed_below c.before.before.before.args.z (rw (to_z-of_z f) at c.if1.true) ∙ ap (λ n. 45 ∷ decimal n) (sym e)
 
-above : (c : tie.Else1) → signedText c.before.before.before.args.z ≡ decimal c.before.size.result
+above : (c : tie.Else1) → signed_text c.before.before.before.args.z ≡ decimal c.before.size.result
 above c =
     let f = c.before.before.before.ranges.z in
     let e : c.before.size.result ≡ size c.before.before.before.args.z = rw (to_z-of_z f) at c.before.size.ensures.0 in
