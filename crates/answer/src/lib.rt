@@ -1,6 +1,8 @@
 // Answers and refusals as enums, and their items in the answer buffer. 01's number and values of each case are definitions
 // (specs/Answers), which the promises use.
 
+#![tactic(auto)]
+
 ghost use Rattle.std.specs.Prelude.{◌≡◌, [], ◌∷◌, ◌+◌, ◌*◌, ◌≤◌, ◌<◌, length, replicate};
 ghost use Rattle.num.specs.Runs.{flat, splice};
 ghost use Rattle.num.specs.Signed.{word_of};

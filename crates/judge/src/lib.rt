@@ -1,5 +1,7 @@
 // A claim judged on the lent part of its disk: the figures and the claims are read where they stand.
 
+#![tactic(auto)]
+
 ghost use Rattle.std.specs.Prelude.{◌≡◌};
 ghost use Rattle.law.specs.Calls.{claim as law_claim};
 ghost use Rattle.law.specs.DiskType.{disk_table};

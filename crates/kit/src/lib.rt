@@ -1,6 +1,8 @@
 // What host programs call. Each function here is exported, and is one line over the crate that does the work, with that
 // crate's statement. host/build lists the exported names and makes the archive of this crate.
 
+#![tactic(auto)]
+
 ghost use Rattle.std.specs.Prelude.{◌≡◌};
 ghost use Rattle.desk.specs.Step.{step_of, stepped};
 

@@ -2,7 +2,8 @@
 use Rattle.std.specs.Prelude.{ℕ, ◌≤◌, Bool, true, false, cond, not, List, [], ◌∷◌, ◌↔◌, ◌⊎◌, ◌≡◌, refl, leb, length}
 use Rattle.std.proofs.lemmas.Bool.{false≢true}
 use Rattle.std.proofs.Common.{true≢false, inl, inr, subst, leb-true, le-leb}
-use Rattle.std.proofs.Math.Logic.{⊎_map, Iff·trans}
+use Rattle.std.proofs.Math.Logic.{⊎_map}
+use Rattle.std.proofs.Math.Logic.Iff.{trans as iff_trans}
 use Rattle.law.specs.declared.Claim.{Claim}
 use Rattle.law.specs.Base.{all_true, any_of}
 use Rattle.law.specs.Types.{most_error, places, last_ticket, Table, Disk, Asked, Outcome, refused, accepted}
@@ -105,7 +106,7 @@ open_refused_exactly n now l0 l1 = unless_exactly n (open_refusals l0 l1) _ tt
 -- The same in 01's words and numbers.
 pub open_refused_by_rule : (n now l0 l1 : ℕ) → (open_disk now l0 l1 ≡ refused n) ↔ FirstHolds n (open_sentences l0 l1)
 open_refused_by_rule n now l0 l1 =
-    Iff·trans (open_refused_exactly n now l0 l1) (first_holds n (open_matches l0 l1))
+    iff_trans (open_refused_exactly n now l0 l1) (first_holds n (open_matches l0 l1))
 
 module _ (t : Table) where
   -- A claim that no rule refuses is granted or waits.
@@ -124,9 +125,9 @@ module _ (t : Table) where
   -- The same in 01's words and numbers, for any call on an open disk.
   pub refused_exactly : (n : ℕ) (d : Disk) (k : Call) → (answered t d k ≡ refused n) ↔ FirstHolds n (sentences_of t d k)
   refused_exactly n d (claims q) =
-      Iff·trans (claim_refused_exactly n d q) (first_holds n (claim_matches t d q))
+      iff_trans (claim_refused_exactly n d q) (first_holds n (claim_matches t d q))
   refused_exactly n d (releases now ticket) =
-      Iff·trans (release_refused_exactly n d now ticket) (first_holds n (release_matches t d now ticket))
+      iff_trans (release_refused_exactly n d now ticket) (first_holds n (release_matches t d now ticket))
 
   -- A refused call leaves the disk and the answers as they were.
   pub refusal_leaves : (h : History) (k : Call) (n : ℕ) → answered t h.disk k ≡ refused n →

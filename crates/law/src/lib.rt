@@ -1,6 +1,8 @@
 // The law of one disk. Its rules are definitions, in specs/. Here stand only the types and the numbers that the rules and the code
 // above them share.
 
+#![tactic(auto)]
+
 pub mod limits;
 
 // An attribute of a disk: its value, its stamp, the amount of error it carries, and the limit of that

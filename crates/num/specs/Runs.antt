@@ -1,5 +1,5 @@
 -- Runs of bytes: the four bytes of a number, the bytes of a list of words, and a list with some of its bytes replaced.
-use Rattle.std.specs.Prelude.{ℕ, ◌+◌, ◌/◌, ◌%◌, Bool, true, ◌&&◌, List, [], ◌∷◌, ◌++◌, eqb}
+use Rattle.std.specs.Prelude.{ℕ, ◌/◌, ◌%◌, Bool, true, ◌&&◌, List, [], ◌∷◌, ◌++◌, eqb}
 use Rattle.std.proofs.lemmas.List.Edits.{sets}
 
 -- The four bytes of a number, lowest first.

@@ -1,5 +1,7 @@
 // Numbers in lent bytes: words, signed words and their metric, bits of a mask, the open word; and two tests at once.
 
+#![tactic(auto)]
+
 pub mod bits;
 pub mod opened;
 pub mod signed;

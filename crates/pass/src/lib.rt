@@ -1,6 +1,8 @@
 // The pass on the part of a disk: every waiting claim is tried once, in order, on the state so far, and each grant stands in
 // the answer buffer.
 
+#![tactic(auto)]
+
 ghost use Rattle.std.specs.Prelude.{false, map, ◌≡◌, ◌+◌, ◌*◌, ◌≤◌, ◌<◌, length};
 ghost use Rattle.num.specs.Runs.{splice};
 ghost use Rattle.law.specs.Granting.{total as law_total, grant_item};

@@ -2,6 +2,8 @@
 // holds a slice, so the functions over `Reader` are few and thin, and each is proved by hand; the work is in `piece_at`, on a
 // plain slice and a number. A caller that has a slice and a place calls `piece_in`.
 
+#![tactic(auto)]
+
 ghost use Rattle.std.specs.Prelude.{◌≡◌};
 ghost use Rattle.records.specs.Pieces.{length_of, piece_at, reader_at};
 

@@ -1,6 +1,8 @@
 // 01's situations K1 to K13 and its printed run through the desk: a row of the table is a record, each record is a call of step,
 // and its answer buffer is printed. The file `stdout` has the lines that 01 asks for.
 
+#![tactic(auto)]
+
 mod lines;
 mod record;
 mod rows;

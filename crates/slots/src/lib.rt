@@ -1,6 +1,8 @@
 // Eight slots of claims in lent bytes, changed where they stand: a claim is put, found, taken out or queued, and the readings among
 // them are raised.
 
+#![tactic(auto)]
+
 ghost use Rattle.std.specs.Prelude.{not, false, true, ◌≡◌, ◌+◌, ◌-◌, ◌≤◌, ◌<◌, take, get_or, set};
 ghost use Rattle.rules.specs.Rows.{no_claim, Row, RowIs, first_of, place_of, remove_at};
 ghost use Rattle.law.specs.Calls.{before, queue};

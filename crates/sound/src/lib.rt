@@ -1,6 +1,8 @@
 // The soundness test: whether the disk of a part, whatever numbers it holds, is sound as 01 has it. Nothing is indexed or summed up
 // before it is in range.
 
+#![tactic(auto)]
+
 mod active;
 mod alone;
 mod figures;

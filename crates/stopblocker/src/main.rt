@@ -1,5 +1,7 @@
 // The program: answers the records of standard input, a line each, until the input ends or the lines cannot be written.
 
+#![tactic(auto)]
+
 mod lines;
 mod text;
 
