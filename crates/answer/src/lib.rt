@@ -20,7 +20,7 @@ const ITEM_BYTES: usize = 16;
 const MOST_GRANTS: usize = 8;
 
 // The refusals, 9 to 21 in 01's order.
-#[derive(Drop)]
+#[derive(Clone, Copy)]
 pub enum Refusal {
     Length,
     Record,
@@ -38,7 +38,7 @@ pub enum Refusal {
 }
 
 // What a call answers. Granted: ticket, told, amount. Waits and Released: ticket.
-#[derive(Drop)]
+#[derive(Clone, Copy)]
 pub enum Answer {
     Granted(u32, i32, u32),
     Waits(u32),
@@ -166,7 +166,7 @@ fn amount(a: Answer) -> u32
 }
 
 // An item of the answer buffer as it shows.
-#[derive(Drop)]
+#[derive(Clone, Copy)]
 pub struct Shown {
     pub code: u32,
     pub ticket: u32,

@@ -102,7 +102,7 @@ fn put_open(board: &mut [u8], d: usize, disk: Disk)
 }
 
 // The number of open disks, or that the board has another length.
-#[derive(Drop)]
+#[derive(Clone, Copy)]
 pub enum Count {
     Disks(u32),
     Length,

@@ -65,7 +65,7 @@ fn barred(s: &[u8], ahead: usize, c: Claim, second: u32, adds: u64) -> bool
 }
 
 // The lock step over the active claims: whether each lets c pass, and what they add to its total.
-#[derive(Drop)]
+#[derive(Clone, Copy)]
 pub struct Locked {
     pub ok: bool,
     pub sum: u64,
@@ -109,7 +109,7 @@ fn lock_step(s: &[u8], c: Claim, t: Totals) -> Locked
 }
 
 // The decision: whether the claim is granted, and then its total; 0 where it is not.
-#[derive(Drop)]
+#[derive(Clone, Copy)]
 pub struct Decided {
     pub ok: bool,
     pub total: u64,

@@ -8,7 +8,7 @@ ghost use Rattle.std.specs.Prelude.{◌≡◌};
 ghost use Rattle.records.specs.Pieces.{length_of, piece_at, reader_at};
 
 // A run of records, and a place in it.
-#[derive(Drop)]
+#[derive(Clone, Copy)]
 pub struct Reader<'a> {
     pub run: &'a [u8],
     pub at: usize,
@@ -16,7 +16,7 @@ pub struct Reader<'a> {
 
 // What begins at a place: a whole record or the short last piece, each with the place where it ends; or nothing, if the place is the
 // end of the run or past it.
-#[derive(Drop)]
+#[derive(Clone, Copy)]
 pub enum Piece {
     Record(usize),
     Short(usize),

@@ -8,7 +8,7 @@ ghost use Rattle.rules.specs.Disks.{by_value};
 use crate::row::no_claim;
 use law::{Attr, Claim};
 
-#[derive(Drop)]
+#[derive(Clone, Copy)]
 pub struct Disk {
     pub clock: u32,
     pub next: u32,

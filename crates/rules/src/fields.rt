@@ -62,7 +62,7 @@ pub(crate) fn own_fits(m: u32, error: u32, used: Attr, promised: Attr, state: At
 }
 
 // What the tests before the decision find.
-#[derive(Drop)]
+#[derive(Clone, Copy)]
 pub enum Tested {
     Passed,
     Refused(Refusal),

@@ -59,7 +59,7 @@ pub fn is_known(m: u32) -> bool
 // What a method does: the masks of what it sets, of what it adds to and of what it reads. And three words of such masks, each with what
 // is set in bits 0 to 2, what is added to in bits 3 to 5 and what is read in bits 6 to 8: what the method does; what another claim does
 // that has an entry other than A with it; and what one does that has entry N with it.
-#[derive(Drop)]
+#[derive(Clone, Copy)]
 pub struct Masks {
     pub sets: u8,
     pub adds: u8,

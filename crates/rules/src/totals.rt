@@ -8,7 +8,7 @@ use crate::method::masks_of;
 use crate::pair::add_part;
 use law::Claim;
 
-#[derive(Drop)]
+#[derive(Clone, Copy)]
 pub struct Totals {
     pub sum: u64,
     pub does: u32,

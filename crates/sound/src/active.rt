@@ -15,7 +15,7 @@ use part::read::{active_at, actives_at, next_at, promised_at};
 use rules::totals::{Totals, keep_out, no_totals, with_claim};
 
 // What the walk over the active claims has seen: whether they pass, and if so their totals and the marks of their tickets.
-#[derive(Drop)]
+#[derive(Clone, Copy)]
 pub struct Walked {
     pub ok: bool,
     pub totals: Totals,

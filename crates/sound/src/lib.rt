@@ -20,7 +20,7 @@ use crate::waiting::waitings_hold;
 use rules::totals::{Totals, no_totals};
 
 // What the soundness test has seen: whether the disk is sound, and if so, for the decision, the totals of its active claims.
-#[derive(Drop)]
+#[derive(Clone, Copy)]
 pub struct Seen {
     pub ok: bool,
     pub totals: Totals,

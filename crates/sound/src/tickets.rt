@@ -13,7 +13,7 @@ use num::bits::bit_of;
 use part::read::{active_at, actives_at, waiting_at, waitings_at};
 
 // Masks of the last six bits of tickets: those met, and those met again.
-#[derive(Drop)]
+#[derive(Clone, Copy)]
 pub struct Marks {
     pub met: u64,
     pub again: u64,

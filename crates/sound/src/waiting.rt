@@ -14,7 +14,7 @@ use part::read::{next_at, waiting_at, waitings_at};
 use rules::row::before;
 
 // What the walk over the waiting claims has seen: whether they pass, and if so the marks of all tickets.
-#[derive(Drop)]
+#[derive(Clone, Copy)]
 pub struct Waited {
     pub ok: bool,
     pub marks: Marks,

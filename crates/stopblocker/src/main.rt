@@ -52,7 +52,7 @@ fn answer_input(board: &mut [u8], run: &mut [u8], lines: &mut [u8])
 
 // A turn: how many bytes it read (0 if it was the last), the number of the last record answered, and how many bytes of a cut record
 // are at the front of the run.
-#[derive(Drop)]
+#[derive(Clone, Copy)]
 struct Turned {
     got: usize,
     number: u64,
@@ -88,7 +88,7 @@ fn turn(board: &mut [u8], run: &mut [u8], have: usize, number: u64, lines: &mut 
 }
 
 // How far a run has been answered: the length of the lines, the number of the last record, and the place behind it.
-#[derive(Drop)]
+#[derive(Clone, Copy)]
 struct Answered {
     length: usize,
     number: u64,
