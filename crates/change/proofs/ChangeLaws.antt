@@ -19,7 +19,7 @@ use Rattle.law.specs.Lists.{never_true, all_at, all_left}
 use Rattle.law.specs.Types.{Attribute, a0, a1, a2, Kind, sets, adds, reads, Figures, Core, Disk as LawDisk}
 use Rattle.law.specs.Entries.{is_never, kind_at, kind_of, entry}
 use Rattle.law.specs.Granting.{raises_by, note_by, told_by, amount_by, put_told, gap, total, stays, raised, grant}
-use Rattle.law.specs.GrantLaws.{NotNever, MayGrant}
+use Rattle.law.specs.MayGrant.{NotNever, MayGrant}
 use Rattle.law.specs.Calls.{land_by}
 use Rattle.law.specs.Sound.{Passes, Sound}
 use Rattle.law.specs.DiskType.{disk_table}

@@ -16,7 +16,7 @@ use Rattle.law.specs.Lists.{never_true}
 use Rattle.law.specs.Types.{a0, a1, a2, Kind, sets, adds, reads, Figures}
 use Rattle.law.specs.Entries.{kind_at, kind_of}
 use Rattle.law.specs.Granting.{limit_by, told_by, note_by, with_amount, put_told, total}
-use Rattle.law.specs.GrantLaws.{MayGrant}
+use Rattle.law.specs.MayGrant.{MayGrant}
 use Rattle.law.specs.DiskType.{disk_table}
 use Rattle.rules.specs.Methods.{writes_by, write_mask, is_reading, sets_state}
 use Rattle.rules.specs.declared.disk.Disk.{Disk}

@@ -4,7 +4,7 @@
 ghost use Rattle.std.specs.Prelude.{false, ◌≡◌, ◌<◌};
 ghost use Rattle.law.specs.Entries.{kind_at, kind_of};
 ghost use Rattle.law.specs.Granting.{told_by, total as law_total};
-ghost use Rattle.law.specs.GrantLaws.{MayGrant};
+ghost use Rattle.law.specs.MayGrant.{MayGrant};
 ghost use Rattle.law.specs.DiskType.{disk_table};
 ghost use Rattle.rules.specs.Methods.{is_reading};
 ghost use Rattle.rules.specs.Answers.{TakesGrant, granted_of};

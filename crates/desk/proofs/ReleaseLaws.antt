@@ -13,9 +13,9 @@ use Rattle.law.specs.Types.{Figures, Disk as LawDisk, refused}
 use Rattle.law.specs.Entries.{kind_of}
 use Rattle.law.specs.Calls.{has_ticket, without, land_by, landed, finish, at, release}
 use Rattle.law.specs.Sound.{Sound}
-use Rattle.law.specs.SoundKept.{sound_finish}
-use Rattle.law.specs.TicketLaws.{Apart}
-use Rattle.law.specs.ProperLaws.{disk_proper}
+use Rattle.law.proofs.SoundKept.{sound_finish}
+use Rattle.law.proofs.TicketLaws.{Apart}
+use Rattle.law.proofs.ProperLaws.{disk_proper}
 use Rattle.law.specs.DiskType.{disk_table}
 use Rattle.rules.specs.Rows.{no_claim, place_of, remove_at}
 use Rattle.rules.specs.PlaceLaws.{any_first, place_ticket, without_place}

@@ -14,7 +14,7 @@ use Rattle.law.specs.Granting.{grant_item}
 use Rattle.law.specs.Calls.{pass, claim, release}
 use Rattle.law.specs.History.{Call}
 use Rattle.law.specs.Sound.{sound, Sound}
-use Rattle.law.specs.Events.{pass_keeps}
+use Rattle.law.proofs.Events.{pass_keeps}
 use Rattle.law.specs.DiskType.{disk_table}
 use Rattle.rules.specs.declared.disk.Disk.{Disk}
 use Rattle.rules.specs.Disks.{disk_of}

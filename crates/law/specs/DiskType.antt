@@ -1,5 +1,5 @@
 -- 01's disk type: its methods, its validities and its compatibility table, a row a line.
-use Rattle.std.specs.Prelude.{ℕ, List, [], ◌∷◌}
+use Rattle.std.specs.Prelude.{ℕ, List, [], ◌∷◌, get_or}
 use Rattle.law.specs.declared.Entry.{Entry}
 use Rattle.law.specs.declared.Entry.TheVariants.{A, N, D, G}
 use Rattle.law.specs.Types.{Attribute, a0, a1, a2, Kind, sets, adds, reads, Table}
@@ -29,3 +29,7 @@ disk_entries =
     ∷ (G ∷ G ∷ G ∷ A ∷ A ∷ A ∷ A ∷ [])
     ∷ (A ∷ A ∷ A ∷ N ∷ A ∷ A ∷ A ∷ [])
     ∷ []
+
+-- The entry of an active and a requested method, looked up in the constant.
+abbrev pub entry_at : ℕ → ℕ → Entry
+entry_at active requested = get_or (get_or disk_entries active []) requested A

@@ -12,37 +12,14 @@ pub mod Sound
 pub mod Fields
 pub mod Sentences
 pub mod Conditions
+pub mod MayGrant
 -- 01's situations, which test the definitions. Steps defines how a situation is written down.
 pub mod Steps
 pub mod Situations
 pub mod LooksRight
 pub mod Further
--- The rest are laws. They are proved, so nobody has to read a proof to know what is promised. The theorems of docs/PROMISES.md
--- stand in TableLaws, SoundTest, Refusals, GrantLaws, SoundKept, Safety, ReaderBound, Stays, GrantedAtOnce and Tickets; the other
--- files are lemmas for them.
+-- What lists, tests and masks have in common. The laws of the disk stand in proofs/, theorems and lemmas.
 pub mod Lists
 pub mod SomeLaws
 pub mod Says
-pub mod FieldLaws
-pub mod Events
-pub mod SoundTest
-pub mod ProperLaws
-pub mod TableLaws
-pub mod Refusals
-pub mod GrantLaws
-pub mod AttributeLaws
-pub mod QueueLaws
-pub mod TicketLaws
-pub mod ClaimLaws
-pub mod FigureLaws
-pub mod FitLaws
-pub mod SoundKept
-pub mod Safety
 pub mod MaskLaws
-pub mod Near
-pub mod Covered
-pub mod Invariant
-pub mod ReaderBound
-pub mod Stays
-pub mod GrantedAtOnce
-pub mod Tickets

@@ -16,7 +16,7 @@ use Rattle.law.specs.Types.{a0, a1, a2, places, Disk as LawDisk}
 use Rattle.law.specs.Entries.{kind_at}
 use Rattle.law.specs.Granting.{adds_to}
 use Rattle.law.specs.Sound.{Sound, sound}
-use Rattle.law.specs.SoundTest.{says_sound}
+use Rattle.law.proofs.SoundTest.{says_sound}
 use Rattle.law.specs.DiskType.{disk_table}
 use Rattle.rules.specs.declared.disk.Disk.{Disk}
 use Rattle.rules.specs.Disks.{disk_of, Good, DiskIs, padded, by_value}

@@ -20,9 +20,9 @@ use Rattle.law.specs.Granting.{with_amount, note_by, total, granted, grant, gran
 use Rattle.law.specs.Calls.{Passing, turn, pass_over, pass}
 use Rattle.law.specs.Sound.{Passes, Sound}
 use Rattle.law.specs.DiskType.{disk_table}
-use Rattle.law.specs.GrantLaws.{MayGrant}
-use Rattle.law.specs.ProperLaws.{proper_kind_lem, disk_proper}
-use Rattle.law.specs.AttributeLaws.{note_same}
+use Rattle.law.specs.MayGrant.{MayGrant}
+use Rattle.law.proofs.ProperLaws.{proper_kind_lem, disk_proper}
+use Rattle.law.proofs.AttributeLaws.{note_same}
 use Rattle.rules.specs.RowLaws.{row_length, left_on, left_end, store_row, store_front, store_left}
 use Rattle.rules.specs.declared.disk.Disk.{Disk}
 use Rattle.rules.specs.Disks.{figures_in, core_in, disk_of, Good, DiskIs, grant_of, ToldFits}

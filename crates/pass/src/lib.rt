@@ -6,7 +6,7 @@
 ghost use Rattle.std.specs.Prelude.{false, map, ◌≡◌, ◌+◌, ◌*◌, ◌≤◌, ◌<◌, length};
 ghost use Rattle.num.specs.Runs.{splice};
 ghost use Rattle.law.specs.Granting.{total as law_total, grant_item};
-ghost use Rattle.law.specs.GrantLaws.{MayGrant};
+ghost use Rattle.law.specs.MayGrant.{MayGrant};
 ghost use Rattle.law.specs.Calls.{pass as law_pass};
 ghost use Rattle.law.specs.DiskType.{disk_table};
 ghost use Rattle.rules.specs.Disks.{core_in, disk_of, DiskIs, grant_of, ToldFits};

@@ -14,7 +14,7 @@ use Rattle.law.specs.Entries.{kind_at, kind_of}
 use Rattle.law.specs.Granting.{told_by, grant_item}
 use Rattle.law.specs.Calls.{claim, release, without}
 use Rattle.law.specs.Sound.{claims_on, Sound}
-use Rattle.law.specs.Events.{After, claim_after, release_after}
+use Rattle.law.proofs.Events.{After, claim_after, release_after}
 use Rattle.law.specs.History.{claims, releases, answered}
 use Rattle.law.specs.DiskType.{disk_table}
 use Rattle.rules.specs.Methods.{is_reading}

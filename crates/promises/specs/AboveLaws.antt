@@ -16,9 +16,9 @@ use Rattle.law.specs.Entries.{kind_of}
 use Rattle.law.specs.Granting.{total, grant, grant_item, raised, as_granted}
 use Rattle.law.specs.Calls.{land_by, landed, has_ticket, without, queue, item, asked, at, claim, finish, let_go, release, with_end}
 use Rattle.law.specs.Sound.{claims_on, Sound}
-use Rattle.law.specs.AttributeLaws.{note_same}
-use Rattle.law.specs.QueueLaws.{queue_cases}
-use Rattle.law.specs.Events.{After, claim_after, release_after, pass_keeps}
+use Rattle.law.proofs.AttributeLaws.{note_same}
+use Rattle.law.proofs.QueueLaws.{queue_cases}
+use Rattle.law.proofs.Events.{After, claim_after, release_after, pass_keeps}
 use Rattle.law.specs.History.{Call, claims, releases, answered}
 use Rattle.law.specs.DiskType.{disk_table}
 use Rattle.rules.specs.Answers.{answer_of}

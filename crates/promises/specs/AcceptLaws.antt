@@ -10,7 +10,7 @@ use Rattle.law.specs.Granting.{preconditions, lock_step, bars, granted, grant_it
 use Rattle.law.specs.Calls.{Rule, unless, item, opened as opened_disk, open_refusals, open_disk, at, asked, granted_at_once, refusals, decided_by, decided, claim, release_refusals, with_end, let_go, release}
 use Rattle.law.specs.History.{claims, releases, answered}
 use Rattle.law.specs.DiskType.{disk_table}
-use Rattle.law.specs.Events.{by_rules}
+use Rattle.law.proofs.Events.{by_rules}
 use Rattle.law.specs.Says.{by_test, Says, fails, says_lt, says_self, says_fails, says_none, none, ◌⊳◌ as ◌then◌, says_tests, ◌and◌}
 use Rattle.law.specs.Sentences.{Sentence, FirstHolds}
 use Rattle.rules.specs.Answers.{answer_of}

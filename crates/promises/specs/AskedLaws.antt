@@ -13,8 +13,8 @@ use Rattle.law.specs.Types.{Core, Disk as LawDisk, claim_of}
 use Rattle.law.specs.Granting.{grant, grant_item, raised, as_granted}
 use Rattle.law.specs.Calls.{without, queue, opened, asked, at, finish, let_go, with_end}
 use Rattle.law.specs.Sound.{claims_on}
-use Rattle.law.specs.QueueLaws.{all_without, all_queued}
-use Rattle.law.specs.Events.{After, claim_after, release_after, pass_keeps}
+use Rattle.law.proofs.QueueLaws.{all_without, all_queued}
+use Rattle.law.proofs.Events.{After, claim_after, release_after, pass_keeps}
 use Rattle.law.specs.History.{claims, releases, answered}
 use Rattle.law.specs.DiskType.{disk_table}
 use Rattle.desk.specs.Record.{kind_byte, disk_number, now_of, asked_in}

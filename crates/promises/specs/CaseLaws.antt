@@ -10,11 +10,11 @@ use Rattle.law.specs.Lists.{passed}
 use Rattle.law.specs.Types.{most_error, Disk as LawDisk, Item, Outcome, refused, accepted}
 use Rattle.law.specs.Granting.{grant}
 use Rattle.law.specs.Calls.{item, at, opened, open_refusals, open_disk, finish, without}
-use Rattle.law.specs.Events.{After, by_rules, claim_after, release_after, pass_keeps}
+use Rattle.law.proofs.Events.{After, by_rules, claim_after, release_after, pass_keeps}
 use Rattle.law.specs.History.{Call, claims, releases, answered}
 use Rattle.law.specs.Sound.{Sound}
-use Rattle.law.specs.SoundKept.{ReadableCall, sound_kept, sound_opened}
-use Rattle.law.specs.ProperLaws.{disk_proper}
+use Rattle.law.proofs.SoundKept.{ReadableCall, sound_kept, sound_opened}
+use Rattle.law.proofs.ProperLaws.{disk_proper}
 use Rattle.law.specs.DiskType.{disk_table}
 use Rattle.answer.specs.declared.Refusal.{Refusal}
 use Rattle.answer.specs.declared.Refusal.TheVariants as R

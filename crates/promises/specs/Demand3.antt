@@ -17,9 +17,9 @@ use Rattle.law.specs.Calls.{with_grant}
 use Rattle.law.specs.Sound.{claims_on}
 use Rattle.law.specs.History.{claims, answered, Once, EndsGrant, EndsWait, Lasting, StandsActive, StandsWaiting}
 use Rattle.law.specs.Conditions.{Reading, Free, reading_item}
-use Rattle.law.specs.GrantedAtOnce.{granted_at_once_lem as law_granted_at_once}
-use Rattle.law.specs.ReaderBound.{Bounded, reader_bound, granted_once as law_granted_once}
-use Rattle.law.specs.Stays.{lasting_all, granted_stays, waiting_stays}
+use Rattle.law.proofs.GrantedAtOnce.{granted_at_once_lem as law_granted_at_once}
+use Rattle.law.proofs.ReaderBound.{Bounded, reader_bound, granted_once as law_granted_once}
+use Rattle.law.proofs.Stays.{lasting_all, granted_stays, waiting_stays}
 use Rattle.law.specs.DiskType.{disk_table}
 use Rattle.rules.specs.Answers.{answer_of}
 use Rattle.answer.specs.declared.Answer.TheVariants as A

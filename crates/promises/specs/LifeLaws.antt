@@ -14,8 +14,8 @@ use Rattle.law.specs.Types.{most_error, Disk as LawDisk, Item, accepted}
 use Rattle.law.specs.Calls.{opened}
 use Rattle.law.specs.History.{Call, History as LawHistory, begun as law_begun, after as law_after, answered, lived as law_lived}
 use Rattle.law.specs.Sound.{Sound}
-use Rattle.law.specs.SoundKept.{ReadableCall, lived_sound}
-use Rattle.law.specs.ProperLaws.{disk_proper}
+use Rattle.law.proofs.SoundKept.{ReadableCall, lived_sound}
+use Rattle.law.proofs.ProperLaws.{disk_proper}
 use Rattle.law.specs.DiskType.{disk_table}
 use Rattle.desk.specs.Record.{disk_number, now_of, call_of, used_limit, promised_limit}
 use Rattle.desk.specs.Board.{disks, board_bytes, part_of}

@@ -16,7 +16,7 @@ use Rattle.law.specs.History.{Call, claims, releases, answered}
 use Rattle.law.specs.DiskType.{disk_table}
 use Rattle.law.specs.Says.{by_test, Says, fails, says_le, says_eq, says_not, says_and, says_two, says_fails, says_self, none, ◌⊳◌ as ◌then◌, says_tests, ◌and◌}
 use Rattle.law.specs.Sentences.{Sentence, FirstHolds, open_sentences, sentences_of}
-use Rattle.law.specs.Refusals.{Matches, done, ◌⊳◌, open_refused_by_rule, refused_exactly}
+use Rattle.law.proofs.Refusals.{Matches, done, ◌⊳◌, open_refused_by_rule, refused_exactly}
 use Rattle.rules.specs.Answers.{answer_of}
 use Rattle.part.specs.ByteLaws.{zero_byte}
 use Rattle.answer.specs.declared.Answer.{Answer}

@@ -12,7 +12,7 @@ use Rattle.law.specs.Types.{reads, Item}
 use Rattle.law.specs.Readings.{present}
 use Rattle.law.specs.Entries.{kind_at, kind_of}
 use Rattle.law.specs.History.{StandsActive}
-use Rattle.law.specs.ReaderBound.{Bounded}
+use Rattle.law.proofs.ReaderBound.{Bounded}
 use Rattle.law.specs.DiskType.{disk_table}
 use Rattle.part.specs.Held.{held}
 use Rattle.desk.specs.Record.{asked_in}

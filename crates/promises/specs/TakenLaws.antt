@@ -10,7 +10,7 @@ use Rattle.law.specs.Lists.{all_say, all_append, pairs_join}
 use Rattle.law.specs.Types.{Disk as LawDisk, Item}
 use Rattle.law.specs.Granting.{grant_item}
 use Rattle.law.specs.Calls.{item, opened}
-use Rattle.law.specs.Events.{After, claim_after, release_after}
+use Rattle.law.proofs.Events.{After, claim_after, release_after}
 use Rattle.law.specs.History.{Call, claims, releases, answered}
 use Rattle.law.specs.DiskType.{disk_table}
 use Rattle.desk.specs.Record.{kind_byte, disk_number, now_of, asked_in, call_of}

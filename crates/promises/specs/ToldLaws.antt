@@ -7,8 +7,8 @@ use Rattle.law.specs.Lists.{all_say, all_true_lem, all_grown}
 use Rattle.law.specs.Types.{Core, Item}
 use Rattle.law.specs.Granting.{grant, grant_item, raised, as_granted}
 use Rattle.law.specs.Calls.{item, wait_item, without, opened, asked, at, finish}
-use Rattle.law.specs.QueueLaws.{all_without}
-use Rattle.law.specs.Events.{After, claim_after, release_after, pass_keeps, lived_keeps}
+use Rattle.law.proofs.QueueLaws.{all_without}
+use Rattle.law.proofs.Events.{After, claim_after, release_after, pass_keeps, lived_keeps}
 use Rattle.law.specs.History.{Call, claims, releases, History, begun, answered, lived}
 use Rattle.law.specs.DiskType.{disk_table}
 use Rattle.promises.specs.Asks.{WasGranted}

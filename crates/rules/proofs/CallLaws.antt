@@ -18,11 +18,12 @@ use Rattle.law.specs.Entries.{kind_at, kind_of}
 use Rattle.law.specs.Granting.{told_by, total, granted, grant_item}
 use Rattle.law.specs.Calls.{Rule, unless, field_tests, own_fits, item, asked, at, claim}
 use Rattle.law.specs.Says.{by_test}
-use Rattle.law.specs.Events.{NoneHolds, by_rules}
+use Rattle.law.proofs.Events.{NoneHolds, by_rules}
 use Rattle.law.specs.Sound.{Passes, Sound}
-use Rattle.law.specs.SoundTest.{unrefused}
-use Rattle.law.specs.GrantLaws.{MayGrant, grant_says}
-use Rattle.law.specs.ProperLaws.{proper_kind_lem, disk_proper}
+use Rattle.law.proofs.SoundTest.{unrefused}
+use Rattle.law.specs.MayGrant.{MayGrant}
+use Rattle.law.proofs.GrantLaws.{grant_says}
+use Rattle.law.proofs.ProperLaws.{proper_kind_lem, disk_proper}
 use Rattle.law.specs.DiskType.{disk_table}
 use Rattle.answer.specs.declared.Answer.{Answer}
 use Rattle.answer.specs.declared.Answer.TheVariants as A

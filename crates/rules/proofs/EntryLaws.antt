@@ -9,7 +9,8 @@ use Rattle.law.specs.Types.{a0, a1, a2, Kind, sets, adds, reads}
 use Rattle.law.specs.Entries.{kind_at, entry_by}
 use Rattle.law.specs.Granting.{adds_to}
 use Rattle.law.specs.DiskType.{disk_table}
-use Rattle.law.specs.TableLaws.{entry_at, disk_entry}
+use Rattle.law.specs.DiskType.{entry_at}
+use Rattle.law.proofs.TableLaws.{disk_entry}
 use Rattle.rules.specs.Methods.{is_add, index_of}
 use Rattle.rules.proofs.MethodLaws.{method_past}
 

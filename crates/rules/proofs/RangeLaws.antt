@@ -10,7 +10,7 @@ use Rattle.law.specs.Types.{most_value, most_error, Attribute, a0, a1, a2, Kind,
 use Rattle.law.specs.Fields.{ValueFits, FieldsFit}
 use Rattle.law.specs.Granting.{limit_by, told_by}
 use Rattle.law.specs.Sound.{LimitFits}
-use Rattle.law.specs.AttributeLaws.{told_range}
+use Rattle.law.proofs.AttributeLaws.{told_range}
 
 pub limit_most : (a : Attribute) (n : ℕ) → LimitFits a n → n ≤ most_error
 limit_most a0 n h = h

@@ -7,7 +7,7 @@ use Rattle.law.specs.Types.{most_value, most_error, last_ticket, Kind, sets, add
 use Rattle.law.specs.Entries.{kind_of}
 use Rattle.law.specs.Granting.{total, grant}
 use Rattle.law.specs.Calls.{Rule, value_fits, land_by, queue, set_clock, claim_refusals}
-use Rattle.law.specs.GrantLaws.{MayGrant}
+use Rattle.law.specs.MayGrant.{MayGrant}
 use Rattle.law.specs.DiskType.{disk_table}
 use Rattle.answer.specs.declared.Answer.{Answer}
 use Rattle.answer.specs.declared.Answer.TheVariants as A

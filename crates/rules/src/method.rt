@@ -4,7 +4,7 @@
 ghost use Rattle.std.specs.Prelude.{◌≡◌, ◌<◌, ltb};
 ghost use Rattle.law.specs.Entries.{entry_by, kind_at};
 ghost use Rattle.law.specs.DiskType.{disk_table};
-ghost use Rattle.law.specs.TableLaws.{entry_at};
+ghost use Rattle.law.specs.DiskType.{entry_at};
 ghost use Rattle.rules.specs.Methods.{set_mask, add_mask, read_mask, write_mask, is_reading, is_add, sets_state, bounds_of, index_of};
 ghost use Rattle.rules.specs.Masks.{word_of, masks_by, masks_of};
 

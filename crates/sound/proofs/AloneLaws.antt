@@ -22,7 +22,7 @@ use Rattle.law.specs.Granting.{adds_to}
 use Rattle.law.specs.Calls.{is_code, value_fits, field_tests, own_fits}
 use Rattle.law.specs.Sound.{bare, bare_by, reading_by, limit_fits}
 use Rattle.law.specs.DiskType.{disk_table}
-use Rattle.law.specs.TableLaws.{disk_methods}
+use Rattle.law.proofs.TableLaws.{disk_methods}
 use Rattle.rules.specs.Methods.{bounds_of}
 use Rattle.rules.specs.Pairs.{add_of}
 use Rattle.rules.proofs.MethodLaws.{method_cases}

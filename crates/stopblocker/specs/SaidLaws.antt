@@ -17,11 +17,11 @@ use Rattle.law.specs.Entries.{kind_of}
 use Rattle.law.specs.Granting.{told_by, granted, grant_item}
 use Rattle.law.specs.Calls.{item, at, asked, opened, open_refusals, open_disk, finish, without}
 use Rattle.law.specs.History.{Call as LawCall, claims, releases, answered}
-use Rattle.law.specs.Events.{After, by_rules, claim_after, release_after, pass_keeps}
-use Rattle.law.specs.GrantLaws.{grant_says}
-use Rattle.law.specs.FitLaws.{Fit, fit_grant}
-use Rattle.law.specs.SoundKept.{sound_fit, sound_finish}
-use Rattle.law.specs.ProperLaws.{proper_kind_lem, disk_proper}
+use Rattle.law.proofs.Events.{After, by_rules, claim_after, release_after, pass_keeps}
+use Rattle.law.proofs.GrantLaws.{grant_says}
+use Rattle.law.proofs.FitLaws.{Fit, fit_grant}
+use Rattle.law.proofs.SoundKept.{sound_fit, sound_finish}
+use Rattle.law.proofs.ProperLaws.{proper_kind_lem, disk_proper}
 use Rattle.law.specs.DiskType.{disk_table}
 use Rattle.rules.proofs.RangeLaws.{limit_most, error_most, limit_range, told_most}
 use Rattle.rules.specs.Answers.{answer_of}

@@ -12,7 +12,7 @@ use Rattle.law.specs.Granting.{adds_to, limit_by, raises_by, with_amount, note_b
 use Rattle.law.specs.Calls.{land_by}
 use Rattle.law.specs.Sound.{BareBy, ReadingBy, LimitFits, SumFits}
 use Rattle.law.specs.Fields.{ValueFits, FieldsFit}
-use Rattle.law.specs.AttributeLaws.{put_all, same_all, same_self, same_turned, sum_less, sum_most, value_sum, sum_value, told_range}
+use Rattle.law.proofs.AttributeLaws.{put_all, same_all, same_self, same_turned, sum_less, sum_most, value_sum, sum_value, told_range}
 use Rattle.law.specs.Entries.{entry_by, is_never}
 
 -- ---- attributes

@@ -11,8 +11,8 @@ use Rattle.law.specs.Granting.{adds_on, stated_limit}
 use Rattle.law.specs.Calls.{field_tests, own_fits, before, claim_refusals}
 use Rattle.law.specs.Sound.{each_attribute, bare, bare_by, reading_by, limit_fits, formed, sum_fits, Bare, BareBy, ReadingBy, LimitFits, Formed, SumFits, passes, Passes, claims_on, sound_tests, sound, Sound}
 use Rattle.law.specs.Says.{Says, says_true, says_le, says_lt, says_eq, says_not, says_two, Tests, none, ◌⊳◌, says_tests, says_every, says_none, says_pairs, says_self, says_fails, ◌and◌}
-use Rattle.law.specs.FieldLaws.{says_zero, says_value, says_fields, says_own}
-use Rattle.law.specs.Events.{NoneHolds}
+use Rattle.law.proofs.FieldLaws.{says_zero, says_value, says_fields, says_own}
+use Rattle.law.proofs.Events.{NoneHolds}
 
 -- ---- an attribute
 

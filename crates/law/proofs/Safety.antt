@@ -7,8 +7,8 @@ use Rattle.law.specs.Lists.{all_say}
 use Rattle.law.specs.Types.{most_error, Attribute, Kind, reads, Table, Proper, attr, Disk, Outcome, refused, accepted}
 use Rattle.law.specs.Sound.{ReadingBy, Sound}
 use Rattle.law.specs.History.{Call, answered, begun, lived}
-use Rattle.law.specs.Events.{After}
-use Rattle.law.specs.SoundKept.{ReadableCall, sound_kept, lived_sound}
+use Rattle.law.proofs.Events.{After}
+use Rattle.law.proofs.SoundKept.{ReadableCall, sound_kept, lived_sound}
 use Rattle.law.specs.Entries.{kind_of}
 
 -- 000: "Object-Safety_o ≡ ∀ a ∈ o_A (a.ImpAmt ≤ data_ε_a)". On a disk, ImpAmt is an attribute's amount and data_ε its limit.

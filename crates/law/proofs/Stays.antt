@@ -11,8 +11,8 @@ use Rattle.law.specs.SomeLaws.{some_left, some_right, some_map, some_less, some_
 use Rattle.law.specs.Types.{Table, Core, Item}
 use Rattle.law.specs.Granting.{grant, grant_item, raised, as_granted}
 use Rattle.law.specs.Calls.{item, wait_item, without, opened, asked, at, finish}
-use Rattle.law.specs.QueueLaws.{queue_cases}
-use Rattle.law.specs.Events.{After, claim_after, release_after, pass_keeps, lived_keeps}
+use Rattle.law.proofs.QueueLaws.{queue_cases}
+use Rattle.law.proofs.Events.{After, claim_after, release_after, pass_keeps, lived_keeps}
 use Rattle.law.specs.History.{Call, claims, releases, History, begun, answered, lived, EndsGrant, EndsWait, Lasting, StandsActive, StandsWaiting}
 
 -- More is said: what holds of an item so far still holds where none of the new items ends it.

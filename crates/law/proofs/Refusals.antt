@@ -9,9 +9,9 @@ use Rattle.law.specs.Base.{all_true, any_of}
 use Rattle.law.specs.Types.{most_error, places, last_ticket, Table, Disk, Asked, Outcome, refused, accepted}
 use Rattle.law.specs.Calls.{Rule, unless, field_tests, has_ticket, open_refusals, open_disk, asked, granted_at_once, refusals, decided, claim, release_refusals, release}
 use Rattle.law.specs.History.{Call, claims, releases, History, after, answered}
-use Rattle.law.specs.Events.{NoneHolds}
+use Rattle.law.proofs.Events.{NoneHolds}
 use Rattle.law.specs.Says.{by_test, Says, fails, says_le, says_lt, says_eq, says_not, says_neither, says_none, says_two}
-use Rattle.law.specs.FieldLaws.{says_fields, says_exceeds}
+use Rattle.law.proofs.FieldLaws.{says_fields, says_exceeds}
 use Rattle.law.specs.Sentences.{Sentence, FirstHolds, Lacks, open_sentences, claim_sentences, release_sentences, sentences_of}
 use Rattle.law.specs.Entries.{kind_at}
 

@@ -10,8 +10,8 @@ use Rattle.law.specs.Granting.{note_by, put_told}
 use Rattle.law.specs.Calls.{land_by}
 use Rattle.law.specs.Sound.{Formed, Passes}
 use Rattle.law.specs.Fields.{FieldsFit, OwnFits}
-use Rattle.law.specs.AttributeLaws.{put_all, note_same}
-use Rattle.law.specs.TicketLaws.{Ticketed, ticketed_end, ticketed_leave, ticketed_new, ticketed_grant}
+use Rattle.law.proofs.AttributeLaws.{put_all, note_same}
+use Rattle.law.proofs.TicketLaws.{Ticketed, ticketed_end, ticketed_leave, ticketed_new, ticketed_grant}
 use Rattle.law.specs.Entries.{kind_of}
 
 -- ---- by the kind

@@ -14,14 +14,14 @@ use Rattle.law.specs.Sound.{BareBy, ReadingBy, LimitFits, Formed, Passes, claims
 use Rattle.law.specs.Fields.{ValueFits}
 use Rattle.law.specs.History.{Call, claims, releases, answered, begun, lived}
 use Rattle.law.specs.Says.{◌and◌}
-use Rattle.law.specs.Events.{After, NoneHolds, by_rules, claim_after, release_after, pass_keeps, lived_keeps}
-use Rattle.law.specs.SoundTest.{unrefused}
-use Rattle.law.specs.AttributeLaws.{value_sum}
-use Rattle.law.specs.QueueLaws.{Before, ended_cases, queue_cases, queue_ordered}
-use Rattle.law.specs.ClaimLaws.{ClaimFits, fields_second}
-use Rattle.law.specs.TicketLaws.{Apart}
-use Rattle.law.specs.FigureLaws.{AttrFits, ActiveFits}
-use Rattle.law.specs.FitLaws.{Fit, fit_clock, fit_new, fit_leave, fit_finish, fit_grant}
+use Rattle.law.proofs.Events.{After, NoneHolds, by_rules, claim_after, release_after, pass_keeps, lived_keeps}
+use Rattle.law.proofs.SoundTest.{unrefused}
+use Rattle.law.proofs.AttributeLaws.{value_sum}
+use Rattle.law.proofs.QueueLaws.{Before, ended_cases, queue_cases, queue_ordered}
+use Rattle.law.proofs.ClaimLaws.{ClaimFits, fields_second}
+use Rattle.law.proofs.TicketLaws.{Apart}
+use Rattle.law.proofs.FigureLaws.{AttrFits, ActiveFits}
+use Rattle.law.proofs.FitLaws.{Fit, fit_clock, fit_new, fit_leave, fit_finish, fit_grant}
 use Rattle.law.specs.Entries.{kind_of}
 
 -- ---- what a record's bytes can hold: a priority of one byte, a flag 0 or 1

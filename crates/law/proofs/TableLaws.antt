@@ -5,12 +5,8 @@ use Rattle.num.specs.Bits.{has_bit}
 use Rattle.law.specs.declared.Entry.{Entry}
 use Rattle.law.specs.declared.Entry.TheVariants.{A}
 use Rattle.law.specs.Types.{reads}
-use Rattle.law.specs.DiskType.{disk_table, disk_entries}
+use Rattle.law.specs.DiskType.{disk_table, disk_entries, entry_at}
 use Rattle.law.specs.Entries.{entry_by, kind_at}
-
--- The entry of an active and a requested method, looked up in the constant.
-abbrev pub entry_at : ℕ → ℕ → Entry
-entry_at active requested = get_or (get_or disk_entries active []) requested A
 
 -- Methods 0 to 6.
 pub disk_methods : length disk_table.kinds ≡ 7

@@ -12,9 +12,9 @@ use Rattle.law.specs.Lists.{all_say, all_there, all_less, never_true, sum_there,
 use Rattle.law.specs.Types.{Attribute, same, Kind, sets, adds, reads, Table, Figures, attr, Core}
 use Rattle.law.specs.Granting.{adds_to, gap_by, adds_on, raised, as_granted}
 use Rattle.law.specs.Calls.{without, land_by, landed}
-use Rattle.law.specs.AttributeLaws.{put_all, same_all, same_self}
-use Rattle.law.specs.QueueLaws.{ended_cases}
-use Rattle.law.specs.GrantLaws.{adding, adds_grown}
+use Rattle.law.proofs.AttributeLaws.{put_all, same_all, same_self}
+use Rattle.law.proofs.QueueLaws.{ended_cases}
+use Rattle.law.proofs.GrantLaws.{adding, adds_grown}
 use Rattle.law.specs.Entries.{kind_of}
 
 abbrev pub sets_to : Attribute → Kind → Bool

@@ -13,11 +13,11 @@ use Rattle.law.specs.Base.{sum_of, All}
 use Rattle.law.specs.Lists.{never_true}
 use Rattle.law.specs.Types.{Attribute, within, metric, Kind, sets, adds, reads, Table, Figures, attr, Core}
 use Rattle.law.specs.Granting.{gap_by, cost_by, raises_by, told_by, amount_by, gap, stays, total, raised, as_granted, grant}
-use Rattle.law.specs.GrantLaws.{start_reads}
+use Rattle.law.proofs.GrantLaws.{start_reads}
 use Rattle.law.specs.Calls.{landed, without}
-use Rattle.law.specs.AttributeLaws.{note_same}
+use Rattle.law.proofs.AttributeLaws.{note_same}
 use Rattle.law.specs.MaskLaws.{sum_two, sum_one, sum_none, dist_read}
-use Rattle.law.specs.Near.{gap_on, Near, near_grant, share_of, near_start, near_end}
+use Rattle.law.proofs.Near.{gap_on, Near, near_grant, share_of, near_start, near_end}
 use Rattle.law.specs.Entries.{entry_by, is_never, kind_of, entry}
 use Rattle.law.specs.Readings.{sum_read, told_read, present, carried}
 

@@ -10,12 +10,13 @@ use Rattle.law.specs.Types.{last_ticket, places, Attribute, sets, Table, Proper,
 use Rattle.law.specs.Granting.{told_by, amount_by, adds_on, total, gap, growth, stays, granted, raised, as_granted, grant}
 use Rattle.law.specs.Calls.{land_by, set_clock, finish}
 use Rattle.law.specs.Sound.{Bare, Formed, Passes}
-use Rattle.law.specs.AttributeLaws.{sum_less}
-use Rattle.law.specs.QueueLaws.{ended_cases}
-use Rattle.law.specs.ClaimLaws.{ClaimsFit, note_limits, land_limits, claims_kept, claims_end, claims_leave, claims_new, claims_grant}
-use Rattle.law.specs.FigureLaws.{AttrFits, attr_kept, grant_sum, note_attrs, land_attrs, ActiveFits, raised_fits, granted_fits, no_add_behind, no_add_before}
-use Rattle.law.specs.ProperLaws.{proper_kind_lem}
-use Rattle.law.specs.GrantLaws.{NotNever, grant_says, adding, adds_grown}
+use Rattle.law.proofs.AttributeLaws.{sum_less}
+use Rattle.law.proofs.QueueLaws.{ended_cases}
+use Rattle.law.proofs.ClaimLaws.{ClaimsFit, note_limits, land_limits, claims_kept, claims_end, claims_leave, claims_new, claims_grant}
+use Rattle.law.proofs.FigureLaws.{AttrFits, attr_kept, grant_sum, note_attrs, land_attrs, ActiveFits, raised_fits, granted_fits, no_add_behind, no_add_before}
+use Rattle.law.proofs.ProperLaws.{proper_kind_lem}
+use Rattle.law.specs.MayGrant.{NotNever}
+use Rattle.law.proofs.GrantLaws.{grant_says, adding, adds_grown}
 use Rattle.law.specs.Entries.{kind_of}
 
 module _ (t : Table) where

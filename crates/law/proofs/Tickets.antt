@@ -6,7 +6,7 @@ use Rattle.law.specs.Types.{Table, Disk, Asked, Item, Outcome, accepted}
 use Rattle.law.specs.Granting.{grant_item}
 use Rattle.law.specs.Calls.{claim, release}
 use Rattle.law.specs.History.{Call, claims, releases, History, after, answered, lived}
-use Rattle.law.specs.Events.{After, claim_after, release_after, lived_keeps}
+use Rattle.law.proofs.Events.{After, claim_after, release_after, lived_keeps}
 
 -- The ticket of the call's own answer.
 abbrev pub ticket_of : List Item → ℕ

@@ -10,11 +10,12 @@ use Rattle.law.specs.Entries.{kind_of}
 use Rattle.law.specs.Granting.{limit_by, told_by, carried_by, amount_by, total, growth, stays, granted, raised, as_granted, grant, grant_item}
 use Rattle.law.specs.Calls.{without, landed}
 use Rattle.law.specs.History.{Once}
-use Rattle.law.specs.QueueLaws.{ended_cases, all_without}
-use Rattle.law.specs.TicketLaws.{Apart, Ticketed, ticketed_end, ticketed_leave, ticketed_new, ticketed_grant}
-use Rattle.law.specs.GrantLaws.{NotNever, MayGrant, grant_says}
-use Rattle.law.specs.Near.{gap_on, share_of}
-use Rattle.law.specs.Covered.{Covered, covered_grant, covered_start, covered_end}
+use Rattle.law.proofs.QueueLaws.{ended_cases, all_without}
+use Rattle.law.proofs.TicketLaws.{Apart, Ticketed, ticketed_end, ticketed_leave, ticketed_new, ticketed_grant}
+use Rattle.law.specs.MayGrant.{NotNever, MayGrant}
+use Rattle.law.proofs.GrantLaws.{grant_says}
+use Rattle.law.proofs.Near.{gap_on, share_of}
+use Rattle.law.proofs.Covered.{Covered, covered_grant, covered_start, covered_end}
 
 -- If the item grants, its ticket has been taken, and its claim no longer waits.
 abbrev pub Given : ℕ → List Claim → Item → Type 0

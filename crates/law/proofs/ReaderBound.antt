@@ -12,10 +12,10 @@ use Rattle.law.specs.Types.{reads, Table, Core, Disk, Asked, Item}
 use Rattle.law.specs.Granting.{grant, grant_item}
 use Rattle.law.specs.Calls.{opened, item, wait_item, claim, release, asked, at, let_go, finish, without, landed}
 use Rattle.law.specs.History.{Call, claims, releases, History, begun, answered, lived, Once}
-use Rattle.law.specs.Events.{After, claim_after, release_after, pass_keeps, lived_keeps}
-use Rattle.law.specs.Covered.{covered_bound}
-use Rattle.law.specs.Invariant.{AllBorne, Borne, Invariant, kept_note, kept_new, kept_leave, kept_end, kept_grant}
-use Rattle.law.specs.QueueLaws.{ended_cases, queue_cases}
+use Rattle.law.proofs.Events.{After, claim_after, release_after, pass_keeps, lived_keeps}
+use Rattle.law.proofs.Covered.{covered_bound}
+use Rattle.law.proofs.Invariant.{AllBorne, Borne, Invariant, kept_note, kept_new, kept_leave, kept_end, kept_grant}
+use Rattle.law.proofs.QueueLaws.{ended_cases, queue_cases}
 use Rattle.law.specs.Entries.{kind_of}
 use Rattle.law.specs.Readings.{present}
 

@@ -15,10 +15,10 @@ use Rattle.law.specs.Base.{all_true, every_of, any_of}
 use Rattle.law.specs.Lists.{all_say, all_passed, every_tests, none_tests, sum-zero}
 use Rattle.law.specs.Types.{most_error, places, last_ticket, Attribute, a0, a1, a2, metric, within, Kind, sets, adds, reads, Table, attr, Core, Disk, Asked, Item, accepted}
 use Rattle.law.specs.Granting.{cost_by, raises_by, limit_by, told_by, carried_by, fresh, addable, bearable, ranged, preconditions, limit, gap, cost, total, stays, lock_step, bars, grant_tests, granted, grant_item}
-use Rattle.law.specs.GrantLaws.{start_reads}
+use Rattle.law.proofs.GrantLaws.{start_reads}
 use Rattle.law.specs.Calls.{field_tests, own_fits, asked, at, granted_at_once, refusals, with_grant, decided_by, decided, claim}
-use Rattle.law.specs.Events.{NoneHolds}
-use Rattle.law.specs.Refusals.{accepted_otherwise}
+use Rattle.law.proofs.Events.{NoneHolds}
+use Rattle.law.proofs.Refusals.{accepted_otherwise}
 use Rattle.law.specs.Entries.{entry_by, is_always, is_never, kind_of, entry}
 use Rattle.law.specs.Readings.{every_read, carried}
 use Rattle.law.specs.Conditions.{writes_what, Reading, Free, reading_item}

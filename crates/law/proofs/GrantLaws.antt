@@ -18,6 +18,7 @@ use Rattle.law.specs.Types.{places, Attribute, a0, a1, a2, Kind, sets, adds, rea
 use Rattle.law.specs.Granting.{adds_to, start_by, limit_by, cost_by, amount_by, with_amount, note_by, adds_on, addable, bearable, ranged, precondition_tests, preconditions, start, limit, gap, cost, total, stays, lock_tests, lock_step, grant_tests, granted, raised, as_granted, grant, grant_item}
 use Rattle.law.specs.Calls.{Passing, turn, pass_over}
 use Rattle.law.specs.Fields.{OwnFits}
+use Rattle.law.specs.MayGrant.{NotNever, MayGrant}
 use Rattle.law.specs.Entries.{is_never, kind_of, entry}
 use Rattle.law.specs.Readings.{carried}
 
@@ -50,18 +51,7 @@ amount_put f a2 n = refl
 module _ (t : Table) where
   -- ---- which tests a grant has passed, and what it adds
 
-  -- The entry of the two claims isn't N.
-  abbrev pub NotNever : Claim → Claim → Type 0
-  NotNever x y = is_never (entry t x y) ≡ false
-
-  pub record MayGrant (s : Core) (c : Claim) : Type 0 where
-    pub in_range : ranged t s (kind_of t c) c.value ≡ true
-    pub no_never : All (λ w. NotNever w c) s.active
-    pub in_limit : total t s c ≤ limit t s c
-    pub all_stay : All (λ w. stays t s c w ≡ true) s.active
-    pub place : length s.active < places
-
-  pub grant_says : (s : Core) (ahead : List Claim) (c : Claim) → granted t s ahead c ≡ true → MayGrant s c
+  pub grant_says : (s : Core) (ahead : List Claim) (c : Claim) → granted t s ahead c ≡ true → MayGrant t s c
   unfolding granted preconditions lock_step
   grant_says s ahead c g =
       let tests = passed (grant_tests t s ahead c) g in

@@ -9,7 +9,7 @@ use Rattle.law.specs.Says.{by_test}
 use Rattle.law.specs.Types.{Table, Core, Disk, Asked, Item, Outcome, refused, accepted}
 use Rattle.law.specs.Granting.{granted, grant, grant_item}
 use Rattle.law.specs.Calls.{Rule, unless, Passing, item, asked, at, granted_at_once, refusals, wait_item, decided, claim, turn, pass_over, let_go, release_refusals, release, with_grant, with_wait, with_end}
-use Rattle.law.specs.GrantLaws.{by_turn}
+use Rattle.law.proofs.GrantLaws.{by_turn}
 use Rattle.law.specs.History.{Call, History, after, answered, lived}
 
 -- If the call is accepted, P holds of the new disk and the items.
