@@ -1,8 +1,9 @@
 -- What was asked on each disk: the accepted claims, each with its ticket and its record, and the tickets that were taken. And
 -- the relation between a claim on the board and what was asked and said.
-use Rattle.std.specs.Prelude.{ℕ, ◌+◌, ◌≤◌, Bool, cond, List, [], ◌∷◌, ◌++◌, ◌≡◌, leb, eqb, pos}
+use Rattle.std.specs.Prelude.{ℕ, ◌+◌, ◌≤◌, ◌<◌, Bool, cond, List, [], ◌∷◌, ◌++◌, ◌≡◌, leb, eqb, pos}
 use Rattle.num.specs.Metric.{dist}
 use Rattle.num.specs.Word.{word_at}
+use Rattle.num.specs.Signed.{signed_at}
 use Rattle.law.specs.declared.Claim.{Claim}
 use Rattle.law.specs.Base.{Some}
 use Rattle.law.specs.Types.{reads, claim_of, Item}
@@ -14,6 +15,7 @@ use Rattle.part.specs.Held.{held}
 use Rattle.desk.specs.Record.{byte_at, kind_byte, disk_number, asked_in}
 use Rattle.desk.specs.Step.{Said, refuses, accepts}
 use Rattle.promises.specs.Histories.{BoardCall, said_by, items_in, History, after}
+use Rattle.promises.specs.Sentences.{WellFormed}
 
 -- The claim as it was asked for: told and amount, which a grant sets, are 0.
 abbrev pub as_asked : Claim → Claim
@@ -82,3 +84,14 @@ Relies p made i =
     ((m : ℕ) → kind_at disk_table (byte_at x.asks 4) ≡ reads m →
     dist i.told (present (held p).core.figures m) + i.carried ≤ word_at x.asks 20))
     made
+
+-- A well-formed claim on a method that reads mask m: second of measuring and value 0, a limit in range.
+pub record AsksReading (r : List ℕ) (m : ℕ) : Type 0 where
+  pub formed : WellFormed r
+  pub claims : kind_byte r ≡ 2
+  pub disk : disk_number r < 64
+  pub method : byte_at r 4 < 7
+  pub reading : kind_at disk_table (byte_at r 4) ≡ reads m
+  pub measured : word_at r 12 ≡ 0
+  pub value : signed_at r 16 ≡ pos 0
+  pub stated : word_at r 20 ≤ 2_000_000_000

@@ -24,7 +24,7 @@ use Rattle.desk.specs.Board.{disks, board_bytes, part_of, with_part}
 use Rattle.desk.specs.BoardLaws.{with_same}
 use Rattle.part.specs.Held.{held, part_for, sound_part}
 use Rattle.part.specs.PartLaws.{sound_held, held_part, length_part_for}
-use Rattle.promises.specs.RefusalLaws.{says_formed}
+use Rattle.promises.proofs.RefusalLaws.{says_formed}
 use Rattle.desk.specs.Step.{accepts, effect, refusing, settled, serve_of, on_part, opening, effect_of}
 use Rattle.desk.specs.StepLaws.{by_call, by_serve, by_effect}
 

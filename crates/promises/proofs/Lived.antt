@@ -5,8 +5,8 @@ use Rattle.law.specs.Base.{All}
 use Rattle.desk.specs.Board.{disks, part_of}
 use Rattle.promises.specs.Histories.{BoardCall, BytesIn, begun, lived}
 use Rattle.promises.specs.Sentences.{SoundPart}
-use Rattle.promises.specs.RefusalLaws.{says_sound_part}
-use Rattle.promises.specs.LifeLaws.{open_sound}
+use Rattle.promises.proofs.RefusalLaws.{says_sound_part}
+use Rattle.promises.proofs.LifeLaws.{open_sound}
 
 -- Every open part is sound.
 pub open_parts_sound : (ks : List BoardCall) → All BytesIn ks → (d : ℕ) → d < disks → open_at (lived begun ks).board d ≡ true →

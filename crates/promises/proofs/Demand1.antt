@@ -7,8 +7,8 @@ use Rattle.law.specs.Sentences.{FirstHolds}
 use Rattle.desk.specs.Record.{kind_byte}
 use Rattle.desk.specs.Step.{own_of, effect_of, step_of}
 use Rattle.promises.specs.Sentences.{NoneHold, GrantsIn, sentences}
-use Rattle.promises.specs.RefusalLaws.{code_exactly, first_least, nine_only, answer_ends, by_lengths, effect_leaves, said_answers}
-use Rattle.promises.specs.AcceptLaws.{none_first, first_none, Ends, ends, ends_opened, ends_granted, ends_waits, ends_released}
+use Rattle.promises.proofs.RefusalLaws.{code_exactly, first_least, nine_only, answer_ends, by_lengths, effect_leaves, said_answers}
+use Rattle.promises.proofs.AcceptLaws.{none_first, first_none, Ends, ends, ends_opened, ends_granted, ends_waits, ends_released}
 
 -- Every call ends in granted, waits, released or opened (0 to 3), or in a refusal (9 to 21).
 pub every_call_ends : (b r a : List ℕ) → ((step_of b r a).code ≤ 3) ⊎ ((9 ≤ (step_of b r a).code) × ((step_of b r a).code ≤ 21))

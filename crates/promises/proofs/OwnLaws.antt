@@ -18,7 +18,7 @@ use Rattle.desk.specs.Board.{disks, board_bytes, part_of, with_part}
 use Rattle.desk.specs.BoardLaws.{length_with, part_same, part_open, open_with}
 use Rattle.part.specs.Held.{held, part_for}
 use Rattle.desk.specs.Step.{Said, refuses, accepts, Effect, refusing, serve_of, on_part, opening, on_disk, on_board, effect_of}
-use Rattle.promises.specs.CaseLaws.{Case, is_refused, is_opened, is_served, effect_case, opened_size, served_size}
+use Rattle.promises.proofs.CaseLaws.{Case, is_refused, is_opened, is_served, effect_case, opened_size, served_size}
 
 -- Two boards have the same disk d: its part and its bit.
 abbrev pub SameDisk : ℕ → List ℕ → List ℕ → Type 0

@@ -29,15 +29,15 @@ use Rattle.desk.specs.Board.{disks, board_bytes, part_of, with_part}
 use Rattle.part.specs.Held.{held, part_for, sound_part}
 use Rattle.desk.specs.Step.{own_of, grants_of, accepts, effect, serve_of, on_board, effect_of, Stepped, written, step_of}
 use Rattle.promises.specs.Sentences.{WellFormed}
-use Rattle.promises.specs.RefusalLaws.{says_formed}
+use Rattle.promises.proofs.RefusalLaws.{says_formed}
 use Rattle.promises.specs.Histories.{BoardCall, BytesIn, step_by, said_by, begun, lived}
-use Rattle.promises.specs.LifeLaws.{empty_shut, whole_begun, whole_lived, by_life, shut_silent, open_sound}
-use Rattle.promises.specs.Asks.{claimed, took, AsAsked, Stated, WasGranted, Relies}
-use Rattle.promises.specs.RelyLaws.{item_relies}
+use Rattle.promises.proofs.LifeLaws.{empty_shut, whole_begun, whole_lived, by_life, shut_silent, open_sound}
+use Rattle.promises.specs.Asks.{claimed, took, AsAsked, Stated, WasGranted, Relies, AsksReading}
+use Rattle.promises.proofs.RelyLaws.{item_relies}
 use Rattle.law.specs.SomeLaws.{some_say}
-use Rattle.promises.specs.AskedLaws.{lived_asked}
-use Rattle.promises.specs.ToldLaws.{lived_granted}
-use Rattle.promises.specs.TakenLaws.{took_rises, claimed_rises}
+use Rattle.promises.proofs.AskedLaws.{lived_asked}
+use Rattle.promises.proofs.ToldLaws.{lived_granted}
+use Rattle.promises.proofs.TakenLaws.{took_rises, claimed_rises}
 
 -- ---- from its grant to its release
 
@@ -68,7 +68,7 @@ claims_as_asked ks bs =
 
 -- After any calls from the empty board, refused ones and calls on other disks included: for every grant that was said on disk d, and that
 -- no later item released, the told sum and the present sum of the same figures differ by at most the limit that its own record states
--- less the error that those figures carried at that grant (`Relies` in Asks; `claims-rise`: no other record took its ticket).
+-- less the error that those figures carried at that grant (`Relies` in Asks; `claims_rise`: no other record took its ticket).
 pub told_bound : (ks : List BoardCall) → All BytesIn ks → (d : ℕ) → d < disks →
     Lasting EndsGrant (Relies (part_of (lived begun ks).board d) (claimed begun ks d)) ((lived begun ks).past d)
 told_bound ks bs d h = go (open_at (lived begun ks).board d) refl
@@ -140,17 +140,6 @@ wait_shows i e = rw e
 
 -- ---- second half: no reader pays for another's limit
 
--- A well-formed claim on a method that reads mask m: second of measuring and value 0, a limit in range.
-pub record AsksReading (r : List ℕ) (m : ℕ) : Type 0 where
-  pub formed : WellFormed r
-  pub claims : kind_byte r ≡ 2
-  pub disk : disk_number r < 64
-  pub method : byte_at r 4 < 7
-  pub reading : kind_at disk_table (byte_at r 4) ≡ reads m
-  pub measured : word_at r 12 ≡ 0
-  pub value : signed_at r 16 ≡ pos 0
-  pub stated : word_at r 20 ≤ 2_000_000_000
-
 -- Such a record, decoded, is a well-formed reading in the law's sense.
 asks : (r : List ℕ) (m : ℕ) → AsksReading r m → Reading disk_table (asked_in r) m
 unfolding asked_in disk_table
@@ -171,12 +160,12 @@ module _ (ks : List BoardCall) (bs : All BytesIn ks) (k : BoardCall) (room : len
   abbrev d : LawDisk
   d = held (part_of b (disk_number r))
 
-  pub granted_at_once_lem : (m : ℕ) → AsksReading r m → open_at b (disk_number r) ≡ true → Free disk_table d (asked_in r) m →
+  pub granted_at_once : (m : ℕ) → AsksReading r m → open_at b (disk_number r) ≡ true → Free disk_table d (asked_in r) m →
       ((step_by b k).code ≡ 0)
       × ((step_by b k).answer
       ≡ answer_bytes (A.Granted d.next (present d.core.figures m) (carried d.core.figures m)) [])
   unfolding step_of effect_of on_board serve_of answer_of
-  granted_at_once_lem m q o c =
+  granted_at_once m q o c =
       (ap (λ (s : Stepped). s.code) step, ap (λ (s : Stepped). s.answer) step)
     where
       sound : sound_part (part_of b (disk_number r)) ≡ true

@@ -12,7 +12,7 @@ use Rattle.records.specs.declared.Piece.{Piece}
 use Rattle.records.specs.declared.Piece.TheVariants.{Record, Short, End}
 use Rattle.records.specs.Pieces.{length_of, length_at, piece_at, reader_at, walked, span, spans, bytes_of, joined, having}
 use Rattle.records.specs.PieceLaws.{length_least, piece_end, whole_is, short_is, walked_to_end, joined_from, having_one}
-use Rattle.promises.specs.Unique.{unique}
+use Rattle.promises.proofs.Unique.{unique}
 
 -- ---- the pieces of a run
 

@@ -22,7 +22,7 @@ use Rattle.part.specs.Held.{held, sound_part}
 use Rattle.desk.specs.Step.{step_of}
 use Rattle.num.specs.Word.{word_at}
 use Rattle.promises.specs.Sentences.{WellFormed, KindFits, NoneHold, Grants, GrantsIn, sentences}
-use Rattle.promises.specs.RefusalLaws.{says_formed, outcome_code, first_of, tests, opened, served, lengths, code_by}
+use Rattle.promises.proofs.RefusalLaws.{says_formed, outcome_code, first_of, tests, opened, served, lengths, code_by}
 
 -- ---- none of the sentences
 

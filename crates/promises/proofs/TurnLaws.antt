@@ -15,8 +15,8 @@ use Rattle.desk.specs.BoardLaws.{length_with, part_same, part_open, open_with}
 use Rattle.part.specs.Held.{held, part_for, sound_part}
 use Rattle.desk.specs.Step.{accepts, Effect, effect_of, step_of}
 use Rattle.promises.specs.Histories.{BoardCall, BytesIn, step_by, said_by, items_in, items_on}
-use Rattle.promises.specs.CaseLaws.{Case, is_refused, is_opened, is_served, effect_case, opened_size, served_size}
-use Rattle.promises.specs.Kept.{other_parts, other_bits}
+use Rattle.promises.proofs.CaseLaws.{Case, is_refused, is_opened, is_served, effect_case, opened_size, served_size}
+use Rattle.promises.proofs.Kept.{other_parts, other_bits}
 
 pub data Turn (b : List ℕ) (k : BoardCall) : ℕ → Type 0 where
   stays : {d : ℕ} → open_at (step_by b k).bytes d ≡ open_at b d → part_of (step_by b k).bytes d ≡ part_of b d → items_on b k d ≡ [] →

@@ -19,9 +19,9 @@ use Rattle.desk.specs.Board.{disks, part_of}
 use Rattle.part.specs.Held.{held}
 use Rattle.promises.specs.Histories.{BoardCall, BytesIn, step_by, said_by, items_in, items_on, History, after, lived}
 use Rattle.promises.specs.Asks.{Claimed, taken_by, taken, claimed_on, claimed, took_by, took_on, took}
-use Rattle.promises.specs.CaseLaws.{opened_held, served_held}
-use Rattle.promises.specs.LifeLaws.{Whole, whole_after}
-use Rattle.promises.specs.TurnLaws.{Turn, stays, opens, serves, turn, own_items}
+use Rattle.promises.proofs.CaseLaws.{opened_held, served_held}
+use Rattle.promises.proofs.LifeLaws.{Whole, whole_after}
+use Rattle.promises.proofs.TurnLaws.{Turn, stays, opens, serves, turn, own_items}
 
 -- ---- tickets that rise
 

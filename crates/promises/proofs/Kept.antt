@@ -23,9 +23,9 @@ use Rattle.part.specs.Held.{held, part_for}
 use Rattle.desk.specs.Step.{Said, own_of, grants_of, Effect, effect, effect_of, Stepped, written, stepped, step_of}
 use Rattle.part.specs.PartLaws.{held_part, part_sound, bytes_part_for}
 use Rattle.promises.specs.Sentences.{SoundPart}
-use Rattle.promises.specs.RefusalLaws.{says_sound_part, by_lengths}
-use Rattle.promises.specs.OwnLaws.{SameDisk, said_same, own_same}
-use Rattle.promises.specs.CaseLaws.{Case, is_refused, is_opened, is_served, effect_case, now_fits, opened_sound, opened_now, opened_size, served_sound, served_now, served_size}
+use Rattle.promises.proofs.RefusalLaws.{says_sound_part, by_lengths}
+use Rattle.promises.proofs.OwnLaws.{SameDisk, said_same, own_same}
+use Rattle.promises.proofs.CaseLaws.{Case, is_refused, is_opened, is_served, effect_case, now_fits, opened_sound, opened_now, opened_size, served_sound, served_now, served_size}
 
 -- ---- no accepted call leaves an unsound part
 

@@ -29,10 +29,10 @@ use Rattle.part.specs.Held.{held, part_for}
 use Rattle.part.specs.PartLaws.{sound_held}
 use Rattle.desk.specs.Step.{accepts, own_of, grants_of, Effect, serve_of, on_board, effect_of, Stepped, written, step_of}
 use Rattle.promises.specs.Sentences.{WellFormed, SoundPart}
-use Rattle.promises.specs.RefusalLaws.{by_lengths, says_formed, says_sound_part}
-use Rattle.promises.specs.CaseLaws.{Case, is_refused, is_opened, is_served, effect_case, served_held, served_size}
-use Rattle.promises.specs.Kept.{other_parts}
-use Rattle.promises.specs.AboveLaws.{Has, Other, NotOf, claim_stands, call_keeps, release_gone, release_goes_on, pass_all, fewer_without, claim_values, release_values}
+use Rattle.promises.proofs.RefusalLaws.{by_lengths, says_formed, says_sound_part}
+use Rattle.promises.proofs.CaseLaws.{Case, is_refused, is_opened, is_served, effect_case, served_held, served_size}
+use Rattle.promises.proofs.Kept.{other_parts}
+use Rattle.promises.proofs.AboveLaws.{Has, Other, NotOf, claim_stands, call_keeps, release_gone, release_goes_on, pass_all, fewer_without, claim_values, release_values}
 
 -- The disk that a board holds in part d.
 abbrev pub disk_on : List ℕ → ℕ → LawDisk

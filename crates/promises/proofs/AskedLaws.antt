@@ -24,9 +24,9 @@ use Rattle.desk.specs.Step.{Said, accepts}
 use Rattle.promises.specs.Histories.{BoardCall, BytesIn, step_by, said_by, History, after, lived}
 use Rattle.promises.specs.Asks.{as_asked, Claimed, taken_by, taken, claimed_on, claimed, AsAsked}
 use Rattle.law.specs.SomeLaws.{some_left, some_right}
-use Rattle.promises.specs.CaseLaws.{opened_held, served_held}
-use Rattle.promises.specs.LifeLaws.{Whole, whole_after}
-use Rattle.promises.specs.TurnLaws.{Turn, stays, opens, serves, turn}
+use Rattle.promises.proofs.CaseLaws.{opened_held, served_held}
+use Rattle.promises.proofs.LifeLaws.{Whole, whole_after}
+use Rattle.promises.proofs.TurnLaws.{Turn, stays, opens, serves, turn}
 
 -- ---- one call on one disk
 

@@ -22,9 +22,9 @@ use Rattle.desk.specs.Board.{disks, board_bytes, part_of}
 use Rattle.part.specs.Held.{held, part_for, sound_part}
 use Rattle.part.specs.PartLaws.{held_part, part_sound}
 use Rattle.promises.specs.Histories.{empty_board, BoardCall, BytesIn, step_by, items_in, items_on, History, begun, after, lived}
-use Rattle.promises.specs.CaseLaws.{call_readable, now_fits, served_now}
-use Rattle.promises.specs.Kept.{size_stays, bytes_stay}
-use Rattle.promises.specs.TurnLaws.{Turn, stays, opens, serves, turn, own_items}
+use Rattle.promises.proofs.CaseLaws.{call_readable, now_fits, served_now}
+use Rattle.promises.proofs.Kept.{size_stays, bytes_stay}
+use Rattle.promises.proofs.TurnLaws.{Turn, stays, opens, serves, turn, own_items}
 
 -- ---- the life of a disk
 

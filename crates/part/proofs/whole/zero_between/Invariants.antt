@@ -1,0 +1,9 @@
+use Rattle.std.proofs.Common.{◌-◌, ◌≡◌, ◌&&◌, nat_eq}
+use Rattle.part.specs.Layout.{zero_at}
+use Rattle.part.proofs.whole.zero_between.Given as goal
+
+abbrev pub invariant-loop-i : goal.invariant-loop-i
+invariant-loop-i l = (nat_eq l.all 0 && zero_at l.s l.i (l.to - l.i)) ≡ zero_at l.s l.from (l.to - l.from)
+
+abbrev pub decreases-loop-i : goal.decreases-loop-i
+decreases-loop-i l = l.to - l.i
