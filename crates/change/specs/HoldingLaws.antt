@@ -1,5 +1,5 @@
 -- Laws of a part that holds a disk: what is read from it and lent of it; slots that come back, and words put into its head.
-use Rattle.std.specs.Prelude.{ℕ, ◌+◌, ◌*◌, ◌^◌, ◌<◌, ◌≡◌, refl, length}
+use Rattle.std.specs.Prelude.{ℕ, ◌*◌, ◌^◌, ◌<◌, ◌≡◌, refl, length}
 use mathlib.Core.List.{List, [], ◌++◌, append_assoc, append-nil}
 use Rattle.std.proofs.Common.{sym, ◌∙◌, arith, drop-drop, take_all}
 use Rattle.std.proofs.Math.Path.{ap}

@@ -1,6 +1,5 @@
-// The reader of a run of records: the lent bytes and a place in them. The borrow checker covers no function over a struct that
-// holds a slice, so the functions over `Reader` are few and thin, and each is proved by hand; the work is in `piece_at`, on a
-// plain slice and a number. A caller that has a slice and a place calls `piece_in`.
+// The reader of a run of records: the lent bytes and a place in them. The functions over `Reader` are few and thin; the work is in
+// `piece_at`, on a plain slice and a number. A caller that has a slice and a place calls `piece_in`.
 
 #![tactic(auto)]
 
