@@ -1,5 +1,5 @@
 -- The disk by value, and the disk of the law that it stands for.
-use Rattle.std.specs.Prelude.{◌+◌, ◌-◌, ◌≤◌, List, ◌++◌, ◌≡◌, length, take, replicate}
+use Rattle.std.specs.Prelude.{◌-◌, ◌≤◌, List, ◌++◌, ◌≡◌, length, take, replicate}
 use Rattle.num.specs.Metric.{size}
 use Rattle.law.specs.declared.Claim.{Claim}
 use Rattle.law.specs.Types.{Figures, Core, Disk as LawDisk}
