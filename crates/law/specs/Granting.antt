@@ -178,8 +178,8 @@ module _ (t : Table) where
   stays s c w = cond (raises_by (entry t w c) (kind_of t c)) (leb (w.amount + growth s c w) (stated_limit w)) true
 
   -- No entry is N; the total is within its limit; each active reading stays within its own. 01 tests the total after each claim
-  -- that adds to it; one test at the end is the same (lock-in-turn), also if no claim adds: the total is then the starting
-  -- amount, which 18, (b) and (c) keep within the limit (start-within).
+  -- that adds to it; one test at the end is the same (lock_in_turn), also if no claim adds: the total is then the starting
+  -- amount, which 18, (b) and (c) keep within the limit (start_within).
   abbrev pub lock_tests : Core → Claim → List Bool
   lock_tests s c =
       every_of (λ w. not (is_never (entry t w c))) s.active

@@ -28,7 +28,7 @@ module _ {a : List Claim} {n : ℕ} (r : Row a n) where
   sum_end f i h = ap (sum_of f) (left_end i h)
 
   -- A turn of a test; then, by what the claim at i answers, what the test of what is left becomes. The sides stand so that an
-  -- invariant `test of what is left ≡ test of the list` goes behind each: `every-on r p i h e ∙ inv`.
+  -- invariant `test of what is left ≡ test of the list` goes behind each: `every_on r p i h e ∙ inv`.
   module _ (p : Claim → Bool) (i : ℕ) where
     every_turn : i < n → every_of p (drop i (take n a)) ≡ (p (get_or a i no_claim) && every_of p (drop (i + 1) (take n a)))
     every_turn h = ap (every_of p) (left_on i h)
