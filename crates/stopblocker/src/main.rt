@@ -14,6 +14,7 @@ use crate::lines::put_lines;
 use answer::ANSWER_BYTES;
 use desk::board::{BOARD_BYTES, step};
 use records::{Piece, piece_in};
+use std::io::{Read, Write};
 
 // 256 records.
 const RUN_BYTES: usize = 6144;
@@ -24,15 +25,27 @@ const LINES_BYTES: usize = 166536;
 // At most this many bytes and one run are read, so that a record's number fits its 64 bits.
 const MOST_BYTES: u64 = 18446744073709545471;
 
-fn main() {
+fn main(rt: HostRuntime) {
     let mut board = [0u8; BOARD_BYTES];
     let mut run = [0u8; RUN_BYTES];
     let mut lines = [0u8; LINES_BYTES];
-    answer_input(&mut board, &mut run, &mut lines);
+    answer_input(
+        &mut rt.stdin(),
+        &mut rt.stdout(),
+        &mut board,
+        &mut run,
+        &mut lines,
+    );
 }
 
 // Takes turns until no more input comes or the lines cannot be written.
-fn answer_input(board: &mut [u8], run: &mut [u8], lines: &mut [u8])
+fn answer_input(
+    input: &mut impl Read,
+    output: &mut impl Write,
+    board: &mut [u8],
+    run: &mut [u8],
+    lines: &mut [u8],
+)
     requires run_len { length run.old ≡ 6144 }
     requires lines_len { length lines.old ≡ 166_536 }
 {
@@ -40,7 +53,7 @@ fn answer_input(board: &mut [u8], run: &mut [u8], lines: &mut [u8])
     let mut number: u64 = 0;
     let mut have: usize = 0;
     while taken < MOST_BYTES {
-        let t = turn(board, run, have, number, lines);
+        let t = turn(input, output, board, run, have, number, lines);
         if t.got == 0 {
             return;
         }
@@ -60,7 +73,15 @@ struct Turned {
 }
 
 // Reads input behind the bytes of a cut record, answers the records, writes their lines, and keeps the bytes of the next cut record.
-fn turn(board: &mut [u8], run: &mut [u8], have: usize, number: u64, lines: &mut [u8]) -> Turned
+fn turn(
+    input: &mut impl Read,
+    output: &mut impl Write,
+    board: &mut [u8],
+    run: &mut [u8],
+    have: usize,
+    number: u64,
+    lines: &mut [u8],
+) -> Turned
     requires run_in_bounds { 27 * length run.old + 648 ≤ length lines.old }
     requires run_bound { number + length run.old < 2 ^ 64 }
     requires have_in_bounds { have ≤ length run.old }
@@ -68,11 +89,11 @@ fn turn(board: &mut [u8], run: &mut [u8], have: usize, number: u64, lines: &mut 
     ensures have_in_bounds_2 { result.have ≤ length run.old }
     ensures have_bound { result.number + result.have ≤ number + have + result.got }
 {
-    let got = read_behind(run, have);
+    let got = read_behind(input, run, have);
     let end = have + got;
     let a = answer_run(board, &run[0..end], number, got == 0, lines);
     let n = a.length;
-    if !io::write_all(1, &lines[0..n]) {
+    if output.write_all(&lines[0..n]).is_err() {
         return Turned {
             got: 0,
             number,
@@ -156,13 +177,15 @@ fn disk_shown(r: &[u8], code: u32) -> u8
 }
 
 // Reads input behind the first `have` bytes; returns how many bytes came, 0 at the end of the input.
-fn read_behind(run: &mut [u8], have: usize) -> usize
+fn read_behind(input: &mut impl Read, run: &mut [u8], have: usize) -> usize
     requires { have ≤ length run.old }
     ensures { have + result ≤ length run.old }
 {
     let end = run.len();
-    let got = libc::read(0, &mut run[have..end]);
-    io::count(got, &run[have..end])
+    match input.read(&mut run[have..end]) {
+        Ok(got) => got,
+        Err(_) => 0,
+    }
 }
 
 // Moves the bytes from `at` up to `end` to the front; returns how many they are.

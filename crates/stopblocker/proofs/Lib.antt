@@ -1,0 +1,5 @@
+-- What the loops of the program keep.
+pub mod DigitLaws
+pub mod GrantLaws
+pub mod CarryLaws
+pub mod GoingLaws
