@@ -60,7 +60,7 @@ no_adds ws =
 
 -- ---- the whole
 
-module _ (d : Disk) (few : length d.core.active ≤ places) (few_waiting_lem : length d.waiting ≤ places) where
+module _ (d : Disk) (few : length d.core.active ≤ places) (few_waits : length d.waiting ≤ places) where
   abbrev f : Figures
   f = d.core.figures
 
@@ -158,7 +158,7 @@ module _ (d : Disk) (few : length d.core.active ≤ places) (few_waiting_lem : l
         and figures.0
         and figures.1.0
         and le-leb (length ws) places few
-        and le-leb (length vs) places few_waiting_lem
+        and le-leb (length vs) places few_waits
         and rest.1.1.0
         and all.1.1.0
         and all.1.1.1.0
