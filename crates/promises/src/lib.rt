@@ -1,3 +1,3 @@
-// What is promised of the desk, over bytes and histories of calls. No code: definitions and theorems, in specs/.
+// What is promised of the desk, over bytes and histories of calls. No code: definitions, in specs/, and theorems, in proofs/.
 
 #![tactic(auto)]
