@@ -11,6 +11,7 @@ Turned are specs/, proofs/, the clauses and imports of src/, the edits of must-f
 import glob
 import os
 import re
+import shutil
 
 # A name may not begin or end inside another.
 WORD = r"[A-Za-z_\u0370-\u03ff\u2113][A-Za-z0-9_'\u0370-\u03ff\u2080-\u2089]*(?:-[A-Za-z0-9_'\u0370-\u03ff\u2080-\u2089]+)*"
@@ -47,7 +48,7 @@ def bare(text):
 
 def library():
     """The words of the kit: they keep their spelling."""
-    kit = os.path.dirname(os.path.dirname(os.path.realpath("/opt/rattle/bin/rt")))
+    kit = os.path.dirname(os.path.dirname(os.path.realpath(shutil.which("rt"))))
     found = set()
     for path in glob.glob(kit + "/rattle/**/*.antt", recursive=True):
         found.update(TOKEN.findall(bare(read(path))))
