@@ -79,6 +79,10 @@ amount_of (A.Refused r) = 0
 abbrev pub answer_size : ℕ
 answer_size = 144
 
+-- The four words of an item as it shows: code, ticket, told as signed, amount.
+abbrev pub shown_bytes : Shown → List ℕ
+shown_bytes s = flat (s.code ∷ s.ticket ∷ word_of s.told ∷ s.amount ∷ [])
+
 -- An item: code, ticket, told as signed, amount.
 unfoldable pub item_bytes : Answer → List ℕ
 item_bytes a = flat (code_of a ∷ ticket_of a ∷ word_of (told_of a) ∷ amount_of a ∷ [])

@@ -1,7 +1,7 @@
 -- Laws of a grant and of the end of a claim, over the law: the masks of a method, what lands, what is raised, and the disk that a
 -- grant leaves.
-use Prim.Native.Nat.{ℕ, ◌+◌, ◌≤◌, ◌<◌}
-use mathlib.Core.Bool.{Bool, true, false, cond}
+use Prim.Native.Nat.{ℕ, ◌+◌, ◌<◌}
+use mathlib.Core.Bool.{true, false, cond}
 use mathlib.Core.List.{List, [], ◌∷◌, ◌++◌, map, map_congr_left}
 use mathlib.Core.Path.{◌≡◌, refl, sym, ap, ◌∙◌}
 use native.Mathlib.Nat.{add-zero}
@@ -11,7 +11,6 @@ use lib.IntN.{pos}
 use lib.ListN.{length, take, drop, get_or}
 use lib.Seq.{get_or-take}
 use Rattle.num.specs.Bits.{shares}
-use Rattle.num.specs.Metric.{size}
 use Rattle.law.specs.declared.Claim.{Claim}
 use Rattle.law.specs.declared.Entry.{Entry}
 use Rattle.law.specs.declared.Entry.TheVariants.{A, N, D, G}
@@ -25,21 +24,18 @@ use Rattle.law.specs.Sound.{Passes, Sound}
 use Rattle.law.specs.DiskType.{disk_table}
 use Rattle.rules.specs.Rows.{no_claim}
 use Rattle.rules.specs.RowLaws.{row_length, store_last}
-use Rattle.rules.specs.Methods.{mask_of, sets_by, adds_by, set_mask, add_mask, is_reading}
-use Rattle.rules.specs.Pairs.{core_of, lets_by}
+use Rattle.rules.specs.Methods.{in_law, mask_of, sets_by, adds_by, set_mask, add_mask, is_reading}
+use Rattle.rules.specs.Pairs.{core_of, lets_by, raise_of}
 use Rattle.rules.specs.declared.disk.Disk.{Disk}
-use Rattle.rules.specs.Disks.{figures_in, core_in, disk_of, Good, DiskIs, grant_of}
+use Rattle.rules.specs.declared.figures.Figures.{Figures as CodeFigures}
+use Rattle.rules.specs.Disks.{figures_in, figures_at, core_in, disk_of, Good, DiskIs, grant_of}
 use Rattle.rules.proofs.EntryLaws.{each_kind}
 use Rattle.rules.proofs.RangeLaws.{fields_size}
 use Rattle.slots.specs.Slots.{map_to, raise_by, raise_with, Raisable}
 use Rattle.slots.specs.SlotsLaws.{to_front, to_row}
-use Rattle.change.specs.Holding.{with_active, with_last, noted, raised_of}
+use Rattle.change.specs.Holding.{LandFits, with_active, with_last, noted, raised_of}
 
 -- ---- what the masks say of a method
-
--- The test of a mask that is at hand answers for the mask of the method.
-pub asked : (x : ℕ) {m n : ℕ} {b answer : Bool} → n ≡ m → b ≡ shares n x → b ≡ answer → shares m x ≡ answer
-asked x e f g = ap (λ (k : ℕ). shares k x) (sym e) ∙ sym f ∙ g
 
 -- A method that has attribute a in its mask of sets is a set of a.
 pub sets_at : (a : Attribute) (m : ℕ) → shares (set_mask m) (mask_of a) ≡ true → kind_at disk_table m ≡ sets a
@@ -63,23 +59,28 @@ adds_at =
 -- ---- the end of a claim
 
 -- A method that neither sets nor adds changes no figure.
-pub land_none : (f : Figures) (w : Claim) (m : ℕ) → shares (set_mask m) 1 ≡ false → shares (set_mask m) 2 ≡ false → shares (set_mask m) 4 ≡ false →
-    shares (add_mask m) 2 ≡ false → land_by f (kind_at disk_table m) w ≡ f
+pub land_none : (f : Figures) (w : Claim) (m : ℕ) → shares (set_mask m) 1 ≡ false → shares (set_mask m) 2 ≡ false →
+    shares (set_mask m) 4 ≡ false → shares (add_mask m) 2 ≡ false → land_by f (kind_at disk_table m) w ≡ f
 unfolding set_mask add_mask
 land_none f w =
     each_kind
-    (λ k. shares (sets_by k) 1 ≡ false → shares (sets_by k) 2 ≡ false → shares (sets_by k) 4 ≡ false → shares (adds_by k) 2 ≡ false → land_by f k w ≡ f)
-    (λ x _ _ _. never_true _ (sym x)) (λ _ _ _ x. never_true _ (sym x)) (λ _ x _ _. never_true _ (sym x)) (λ _ _ x _. never_true _ (sym x))
+    (λ k.
+    shares (sets_by k) 1 ≡ false → shares (sets_by k) 2 ≡ false → shares (sets_by k) 4 ≡ false → shares (adds_by k) 2 ≡ false →
+    land_by f k w ≡ f)
+    (λ x _ _ _. never_true _ (sym x)) (λ _ _ _ x. never_true _ (sym x))
+    (λ _ x _ _. never_true _ (sym x)) (λ _ _ x _. never_true _ (sym x))
     (λ _ _ _ _. refl) (λ _ _ _ _. refl) (λ _ _ _ _. refl) (λ _ _ _ _. refl)
 
 -- An active claim that lands fits: its value and that of promised are in range.
-pub land_fits : (d : LawDisk) (i : ℕ) → Sound disk_table d → i < length d.core.active →
-    size d.core.figures.f1.value + size (get_or d.core.active i no_claim).value ≤ 2_000_000_000
-land_fits d i s h =
-    let w : Claim = get_or d.core.active i no_claim in
-    let p : Passes disk_table d.core.figures d.core.clock w =
-    all_at _ d.core.active no_claim i h (all_left _ d.core.active d.waiting s.all_pass) in
-    omega (arith, s.values a1, fields_size d.core.clock (kind_of disk_table w) w p.fields)
+pub land_fits : (d : Disk) (i : ℕ) → Good d → Sound disk_table (disk_of d) → i < d.actives → LandFits d (get_or d.active i no_claim)
+land_fits d i good s h =
+    let ws = take d.actives d.active in
+    let w = get_or ws i no_claim in
+    let here : i < length ws = omega (arith, row_length good.active) in
+    let p : Passes disk_table (figures_in d) d.clock w =
+    all_at _ ws no_claim i here (all_left _ ws (take d.waitings d.waiting) s.all_pass) in
+    let fits : LandFits d w = omega (arith, s.values a1, fields_size d.clock (kind_of disk_table w) w p.fields) in
+    rw get_or-take at fits
 
 -- ---- what is raised
 
@@ -120,17 +121,18 @@ within d c good g r i h =
     (all_at (λ w. stays disk_table s c w ≡ true) s.active no_claim i k g.all_stay))
 
 -- So it is with what the code has at hand.
-pub raisable : (d : Disk) (c : Claim) → Good d → MayGrant disk_table (core_in d) c → is_reading (kind_of disk_table c) ≡ false → {n raise : ℕ} →
-    n ≡ d.actives → raise ≡ c.error + gap disk_table (core_in d) c → {cs : List Claim} → cs ≡ d.active → Raisable cs n c.method raise
-raisable d c good g r n raise cs = rw (cs, n, raise) (within d c good g r)
+pub raisable : (d : Disk) (c : Claim) → Good d → MayGrant disk_table (core_in d) c → is_reading (kind_of disk_table c) ≡ false →
+    {f : CodeFigures} {n raise : ℕ} {cs : List Claim} → f ≡ figures_at d → n ≡ d.actives → raise ≡ raise_of (in_law f) c → cs ≡ d.active →
+    Raisable cs n c.method raise
+raisable d c good g r f n raise cs = rw (cs, n, raise, f) (within d c good g r)
 
 -- The first n claims raised by so much, where that is what the grant of a write raises: the disk that it leaves.
-pub raises : (d : Disk) (c : Claim) → is_reading (kind_of disk_table c) ≡ false → {n raise : ℕ} → n ≡ d.actives →
-    raise ≡ c.error + gap disk_table (core_in d) c → {cs new : List Claim} → cs ≡ d.active → new ≡ map_to n (raise_with c.method raise) cs →
+pub raises : (d : Disk) (c : Claim) → is_reading (kind_of disk_table c) ≡ false → {f : CodeFigures} {n raise : ℕ} {cs new : List Claim} →
+    f ≡ figures_at d → n ≡ d.actives → raise ≡ raise_of (in_law f) c → cs ≡ d.active → new ≡ map_to n (raise_with c.method raise) cs →
     with_active d new ≡ raised_of d c
 unfolding raised_of
-raises d c r n raise cs new =
-    rw (new, cs, n, raise)
+raises d c r f n raise cs new =
+    rw (new, cs, n, raise, f)
     (sym
     (ap (λ (l : List Claim). with_active d (l ++ drop d.actives d.active))
     (map_congr_left {l = take d.actives d.active} (λ x _. raise_of_lem (core_in d) c x r))))
@@ -138,7 +140,8 @@ raises d c r n raise cs new =
 -- Raising the active claims leaves a good disk.
 pub raised_good : (d : Disk) (c : Claim) → Good d → Good (raised_of d c)
 unfolding raised_of
-raised_good d c good = record { active = to_row (raised disk_table (core_in d) c) d.active d.actives good.active; waiting = good.waiting }
+raised_good d c good =
+    record { active = to_row (raised disk_table (core_in d) c) d.active d.actives good.active; waiting = good.waiting }
 
 -- ---- the grant
 
@@ -172,7 +175,8 @@ read_amount (sets a) n h = never_true _ h
 read_amount (adds a) n h = never_true _ h
 read_amount (reads m) n h = refl
 
-write_told : (c : Claim) (f : Figures) (k : Kind) (n : ℕ) → is_reading k ≡ false → put_told c (told_by f k) (amount_by k n) ≡ put_told c (pos 0) 0
+write_told : (c : Claim) (f : Figures) (k : Kind) (n : ℕ) → is_reading k ≡ false →
+    put_told c (told_by f k) (amount_by k n) ≡ put_told c (pos 0) 0
 write_told c f (sets a) n h = refl
 write_told c f (adds a) n h = refl
 write_told c f (reads m) n h = never_true _ (sym h)
@@ -205,7 +209,8 @@ module _ (d : Disk) (c : Claim) (good : Good d) (may : MayGrant disk_table (core
 
   -- A granted write raises and notes, and is told nothing.
   pub grant_write : is_reading (kind_of disk_table c) ≡ false →
-      DiskIs (with_last (noted (raised_of d c) c.method (total disk_table (core_in d) c)) d.actives (put_told c (pos 0) 0)) (grant_of (disk_of d) c)
+      DiskIs (with_last (noted (raised_of d c) c.method (total disk_table (core_in d) c)) d.actives (put_told c (pos 0) 0))
+      (grant_of (disk_of d) c)
   unfolding grant raised_of
   grant_write r =
       let k = kind_of disk_table c in

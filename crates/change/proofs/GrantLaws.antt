@@ -1,9 +1,9 @@
 -- Laws of a grant on a part: the clock and the next ticket, the total noted in the head, the claim behind the active ones, and the
 -- disk that is left.
 use Prim.Native.Nat.{ℕ, ◌+◌, ◌^◌, ◌<◌}
-use mathlib.Core.Bool.{Bool, true, false}
+use mathlib.Core.Bool.{true, false}
 use mathlib.Core.List.{List}
-use mathlib.Core.Path.{◌≡◌, refl, sym, ◌∙◌, subst}
+use mathlib.Core.Path.{◌≡◌, refl, sym, ap, ◌∙◌, subst}
 use native.Mathlib.Omega.{arith}
 use borrow.Rule.Slice.PartMut.{put_mid}
 use lib.IntN.{ℤ, pos}
@@ -13,30 +13,39 @@ use Rattle.num.specs.Word.{put_word}
 use Rattle.law.specs.declared.Attr.{Attr}
 use Rattle.law.specs.declared.Claim.{Claim}
 use Rattle.law.specs.Lists.{never_true}
-use Rattle.law.specs.Types.{a0, a1, a2, Kind, sets, adds, reads, Figures}
+use Rattle.law.specs.Types.{a0, a1, a2, Kind, sets, adds, reads, Figures, Disk as LawDisk}
 use Rattle.law.specs.Entries.{kind_at, kind_of}
 use Rattle.law.specs.Granting.{limit_by, told_by, note_by, with_amount, put_told, total}
 use Rattle.law.specs.MayGrant.{MayGrant}
 use Rattle.law.specs.DiskType.{disk_table}
 use Rattle.rules.specs.Methods.{writes_by, write_mask, is_reading, sets_state}
 use Rattle.rules.specs.declared.disk.Disk.{Disk}
+use Rattle.rules.specs.Answers.{granted_of}
 use Rattle.rules.specs.Disks.{figures_in, core_in, disk_of, Good, DiskIs, grant_of}
 use Rattle.rules.proofs.EntryLaws.{each_kind}
 use Rattle.part.specs.Layout.{slots, head_words, decode, AttrFits}
-use Rattle.part.specs.Held.{HoldsDisk}
+use Rattle.part.specs.Held.{part_for, HoldsDisk}
 use Rattle.slots.specs.Slots.{Slots}
-use Rattle.change.specs.Holding.{Holds, NoteFits, numbered, with_figures, with_active, with_last, noted, raised_of}
-use Rattle.change.specs.HoldingLaws.{holds_decode, holds_disk, active_slots, active_back, put_clock, put_next, put_actives, put_figure}
-use Rattle.change.proofs.ChangeLaws.{asked, grant_reading, grant_write}
+use Rattle.change.specs.Holding.{Holds, NoteFits, numbered, with_figures, with_active, with_last, with_next, noted, raised_of}
+use Rattle.change.specs.HoldingLaws.{holds_decode, holds_disk, holds_part, active_slots, active_back, put_actives, put_figure}
+use Rattle.change.proofs.ChangeLaws.{grant_reading, grant_write}
 
 -- ---- the clock and the next ticket
 
-abbrev pub clocked : Disk → ℕ → ℕ → Disk
-clocked d second next = numbered d second next d.actives d.waitings
+-- A disk at another second.
+abbrev pub clocked : Disk → ℕ → Disk
+clocked d second = numbered d second d.next d.actives d.waitings
 
-pub clocked_holds : {s : List ℕ} {d : Disk} → Holds s d → {r : List ℕ} {second next : ℕ} → r ≡ put_word (put_word s 0 second) 4 next →
-    second < 2 ^ 32 → next < 2 ^ 32 → Holds r (clocked d second next)
-clocked_holds h e l m = rw e (put_next (put_clock h l) m)
+-- A grant at that second, with the next ticket: this is the part of the disk that the law leaves.
+pub new_part : (d : Disk) (second : ℕ) (c : Claim) {s : List ℕ} {e : Disk} → DiskIs e (grant_of (disk_of (clocked d second)) c) →
+    Holds s (with_next e (c.ticket + 1)) → s ≡ part_for (granted_of (disk_of d) second c)
+unfolding granted_of
+new_part d second c is h =
+    holds_part h
+    (record {
+      good = record { active = is.good.active; waiting = is.good.waiting };
+      is = ap (λ (e : LawDisk). record { core = e.core; waiting = e.waiting; next = c.ticket + 1 }) is.is;
+    })
 
 -- ---- the noted total
 
@@ -44,38 +53,41 @@ amount_fits : {a : Attr} {n : ℕ} → AttrFits a → n < 2 ^ 32 → AttrFits (w
 amount_fits f l = record { value = f.value; stamp = f.stamp; amount = l; limit = f.limit }
 
 module _ {s : List ℕ} {d : Disk} (h : Holds s d) (m total : ℕ) (l : total < 2 ^ 32) where
-  pub note_used : {n : ℕ} {b : Bool} → n ≡ write_mask m → b ≡ shares n 1 → b ≡ true → Holds (put_word s 24 total) (noted d m total)
+  pub note_used : shares (write_mask m) 1 ≡ true → Holds (put_word s 24 total) (noted d m total)
   unfolding head_words write_mask
-  note_used e x y =
+  note_used =
       each_kind (λ k. shares (writes_by k) 1 ≡ true → Holds (put_word s 24 total) (with_figures d (note_by (figures_in d) k total)))
       (λ _. put_figure h (amount_fits h.fits.used l) h.fits.promised h.fits.state 6 total (omega arith) refl)
-      (never_true _) (never_true _) (never_true _) (never_true _) (never_true _) (never_true _) (never_true _) m (asked 1 e x y)
+      (never_true _) (never_true _) (never_true _) (never_true _) (never_true _) (never_true _) (never_true _) m
 
-  pub note_promised : {n : ℕ} {b : Bool} → n ≡ write_mask m → b ≡ shares n 2 → b ≡ true → Holds (put_word s 40 total) (noted d m total)
+  pub note_promised : shares (write_mask m) 2 ≡ true → Holds (put_word s 40 total) (noted d m total)
   unfolding head_words write_mask
-  note_promised e x y =
+  note_promised =
       let put : Holds (put_word s 40 total) (with_figures d (note_by (figures_in d) (sets a1) total)) =
       put_figure h h.fits.used (amount_fits h.fits.promised l) h.fits.state 10 total (omega arith) refl in
       each_kind (λ k. shares (writes_by k) 2 ≡ true → Holds (put_word s 40 total) (with_figures d (note_by (figures_in d) k total)))
-      (never_true _) (λ _. put) (λ _. put) (never_true _) (never_true _) (never_true _) (never_true _) (never_true _) m (asked 2 e x y)
+      (never_true _) (λ _. put) (λ _. put) (never_true _) (never_true _) (never_true _) (never_true _) (never_true _) m
 
   -- The state's amount is 0 and stays so; a reading notes nothing.
-  pub note_none : {n : ℕ} {used promised : Bool} → NoteFits m total → n ≡ write_mask m → used ≡ shares n 1 → used ≡ false → promised ≡ shares n 2 →
-      promised ≡ false → Holds s (noted d m total)
+  pub note_none : NoteFits m total → shares (write_mask m) 1 ≡ false → shares (write_mask m) 2 ≡ false → Holds s (noted d m total)
   unfolding write_mask
-  note_none fits e x y u v =
+  note_none =
       each_kind
-      (λ k. (sets_state k ≡ true → total ≡ 0) → shares (writes_by k) 1 ≡ false → shares (writes_by k) 2 ≡ false → Holds s (with_figures d (note_by (figures_in d) k total)))
+      (λ k.
+      (sets_state k ≡ true → total ≡ 0) → shares (writes_by k) 1 ≡ false → shares (writes_by k) 2 ≡ false →
+      Holds s (with_figures d (note_by (figures_in d) k total)))
       (λ _ x _. never_true _ (sym x)) (λ _ _ x. never_true _ (sym x)) (λ _ _ x. never_true _ (sym x))
       (λ f _ _. subst (λ (n : ℕ). Holds s (with_figures d (note_by (figures_in d) (sets a2) n))) (h.fits.state.amount ∙ sym (f refl)) h)
-      (λ _ _ _. h) (λ _ _ _. h) (λ _ _ _. h) (λ _ _ _. h) m fits (asked 1 e x y) (asked 2 e u v)
+      (λ _ _ _. h) (λ _ _ _. h) (λ _ _ _. h) (λ _ _ _. h) m
 
 -- ---- the claim behind the active ones
 
 pub last_holds : {s : List ℕ} {d : Disk} → Holds s d → {n : ℕ} (c : Claim) → n < 8 → {row : List ℕ} → Slots row →
     slots 8 row ≡ set (slots 8 (take 352 (drop 64 s))) n c → Holds (put_word (put_mid 64 352 s row) 8 (n + 1)) (with_last d n c)
 last_holds {s} {d} h {n} c l {row} back e =
-    subst (λ (cs : List Claim). Holds (put_word (put_mid 64 352 s row) 8 (n + 1)) (numbered (with_active d cs) d.clock d.next (n + 1) d.waitings))
+    subst
+    (λ (cs : List Claim).
+    Holds (put_word (put_mid 64 352 s row) 8 (n + 1)) (numbered (with_active d cs) d.clock d.next (n + 1) d.waitings))
     (rw (active_slots h) at e) (put_actives (active_back h back) (omega arith))
 
 -- ---- the grant
@@ -109,10 +121,11 @@ module _ (d : Disk) (c : Claim) (good : Good d) (may : MayGrant disk_table (core
 
   -- A write raises, notes, and is put behind the active claims.
   pub write_grants : is_reading (kind_at disk_table c.method) ≡ false → {n sum : ℕ} → n ≡ d.actives → sum ≡ total disk_table (core_in d) c →
-      {s t u : List ℕ} → Holds s (raised_of d c) → Holds t (noted (decode s) c.method sum) → Holds u (with_last (decode t) n (put_told c (pos 0) 0)) →
-      Grants u d c
+      {s t u : List ℕ} → Holds s (raised_of d c) → Holds t (noted (decode s) c.method sum) →
+      Holds u (with_last (decode t) n (put_told c (pos 0) 0)) → Grants u d c
   write_grants r {n} {sum} p e {s} {t} {u} raises notes puts =
-      let second : Holds t (noted (raised_of d c) c.method sum) = subst (λ (x : Disk). Holds t (noted x c.method sum)) (holds_decode raises) notes in
+      let second : Holds t (noted (raised_of d c) c.method sum) =
+      subst (λ (x : Disk). Holds t (noted x c.method sum)) (holds_decode raises) notes in
       let third : Holds u (with_last (noted (raised_of d c) c.method sum) n (put_told c (pos 0) 0)) =
       subst (λ (x : Disk). Holds u (with_last x n (put_told c (pos 0) 0))) (holds_decode second) puts in
       grants d c third (rw (p, e) (grant_write d c good may r))

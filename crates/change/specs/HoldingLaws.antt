@@ -152,7 +152,8 @@ module _ {s : List ℕ} {d : Disk} (h : Holds s d) where
   unfolding encode head_words
   waiting_back {row} r =
       let front : take 416 s ≡ flat (head_words d) ++ in_slots d.active = take-add 64 352 s ∙ (λ i. head_run i ++ active_run i) in
-      let none : drop 352 (drop 416 s) ≡ [] = ap (drop 352) behind_all ∙ drop_of_length-le (in_slots d.waiting) {i = 352} (omega (arith, eight_more)) in
+      let none : drop 352 (drop 416 s) ≡ [] =
+      ap (drop 352) behind_all ∙ drop_of_length-le (in_slots d.waiting) {i = 352} (omega (arith, eight_more)) in
       let new = in_slots (slots 8 row) in
       record {
         is =
@@ -189,7 +190,8 @@ module _ {s : List ℕ} {d : Disk} (h : Holds s d) where
 
   -- A word of its figures, and two of them.
   module _ {f : Figures} (used : AttrFits f.f0) (promised : AttrFits f.f1) (state : StateFits f.f2) where
-    pub put_figure : (i x : ℕ) → i < 16 → set (head_words d) i x ≡ head_words (with_figures d f) → Holds (put_word s (4 * i) x) (with_figures d f)
+    pub put_figure : (i x : ℕ) → i < 16 → set (head_words d) i x ≡ head_words (with_figures d f) →
+        Holds (put_word s (4 * i) x) (with_figures d f)
     unfolding encode
     put_figure i x l e =
         record {

@@ -3,7 +3,7 @@
 
 ghost use Rattle.std.specs.Prelude.{false, ◌≡◌, ◌<◌};
 ghost use Rattle.law.specs.Entries.{kind_at, kind_of};
-ghost use Rattle.law.specs.Granting.{told_by, total as law_total};
+ghost use Rattle.law.specs.Granting.{told_by, put_told, total as law_total};
 ghost use Rattle.law.specs.MayGrant.{MayGrant};
 ghost use Rattle.law.specs.DiskType.{disk_table};
 ghost use Rattle.rules.specs.Methods.{is_reading};
@@ -11,32 +11,34 @@ ghost use Rattle.rules.specs.Answers.{TakesGrant, granted_of};
 ghost use Rattle.rules.specs.Disks.{figures_in, core_in, disk_of, DiskIs, grant_of};
 ghost use Rattle.part.specs.Layout.{decode};
 ghost use Rattle.part.specs.Held.{held, part_for, HoldsDisk};
-ghost use Rattle.change.specs.Holding.{Holds, NoteFits, with_last, noted, raised_of};
+ghost use Rattle.change.specs.Holding.{Holds, NoteFits, with_last, with_next, noted, raised_of};
 
-use crate::moves::put_numbers;
 use law::Claim;
 use num::bits::share;
 use num::word::put_word;
-use part::layout::{ACTIVE_AT, ACTIVES_AT, AMOUNT_IN, NEXT_AT, PROMISED_AT, USED_AT, WAITING_AT};
-use part::read::{actives_at, promised_at, state_at, used_at};
+use part::layout::{
+    ACTIVE_AT, ACTIVES_AT, AMOUNT_IN, CLOCK_AT, NEXT_AT, PART_BYTES, PROMISED_AT, USED_AT,
+    WAITING_AT,
+};
+use part::read::{count_at, figures_at};
+use part::status::Status;
 use rules::method::{PROMISED, USED, is_reading, writes};
-use rules::pair::raise_of;
 use slots::{put_slot, raise_all};
 
 // Raises the n active claims for the grant of the write c.
-fn raise_on(s: &mut [u8], n: u32, c: Claim)
+fn raise_on(s: &mut [u8; PART_BYTES], n: u32, c: Claim)
     requires holds_disk { HoldsDisk s.old }
     requires may_grant { MayGrant disk_table (core_in (decode s.old)) c }
     requires method_value { is_reading (kind_at disk_table c.method) ≡ false }
     requires n_value { n ≡ (decode s.old).actives }
     ensures { Holds s.new (raised_of (decode s.old) c) }
 {
-    let raise = raise_of(c, used_at(s), promised_at(s), state_at(s));
+    let raise = figures_at(s).raise_of(c);
     raise_all(&mut s[ACTIVE_AT..WAITING_AT], n as usize, c.method, raise);
 }
 
 // Notes the total of a granted write of method m as the amount of what it writes. The state's amount is 0 and has no place.
-fn note(s: &mut [u8], m: u32, total: u32)
+fn note(s: &mut [u8; PART_BYTES], m: u32, total: u32)
     requires holds_disk { HoldsDisk s.old }
     requires note_fits { NoteFits m total }
     ensures { Holds s.new (noted (decode s.old) m total) }
@@ -51,18 +53,19 @@ fn note(s: &mut [u8], m: u32, total: u32)
     }
 }
 
-// Puts the claim c behind the n active ones.
-fn put_last(s: &mut [u8], n: u32, c: Claim)
+// Puts the claim c behind the n active ones, with the sum that it is told and its amount.
+fn put_last(s: &mut [u8; PART_BYTES], n: u32, c: Claim, told: i32, amount: u32)
     requires holds_disk { HoldsDisk s.old }
     requires n_bound { n < 8 }
-    ensures { Holds s.new (with_last (decode s.old) n c) }
+    ensures { Holds s.new (with_last (decode s.old) n (put_told c told amount)) }
 {
-    put_slot(&mut s[ACTIVE_AT..WAITING_AT], n as usize, c);
+    let row = &mut s[ACTIVE_AT..WAITING_AT];
+    put_slot(row, n as usize, Claim { told, amount, ..c });
     put_word(s, ACTIVES_AT, n + 1);
 }
 
 // Grants the claim c, with the sum that it is told and the total that the decision has counted.
-pub fn grant(s: &mut [u8], c: Claim, told: i32, total: u32)
+pub fn grant(s: &mut [u8; PART_BYTES], c: Claim, told: i32, total: u32)
     requires holds_disk { HoldsDisk s.old }
     requires may_grant { MayGrant disk_table (core_in (decode s.old)) c }
     requires told_value { told ≡ told_by (figures_in (decode s.old)) (kind_of disk_table c) }
@@ -70,28 +73,32 @@ pub fn grant(s: &mut [u8], c: Claim, told: i32, total: u32)
     ensures holds_disk_2 { HoldsDisk s.new }
     ensures disk_is { DiskIs (decode s.new) (grant_of (disk_of (decode s.old)) c) }
 {
-    let n = actives_at(s);
-    let mut g = c;
+    let n = count_at(s, Status::Active);
     if is_reading(c.method) {
-        g.told = told;
-        g.amount = total;
-        put_last(s, n, g);
+        put_last(s, n, c, told, total);
         return;
     }
-    g.told = 0;
-    g.amount = 0;
     raise_on(s, n, c);
     note(s, c.method, total);
-    put_last(s, n, g);
+    put_last(s, n, c, 0, 0);
+}
+
+// Puts the next ticket on a part that holds a disk.
+fn put_next(s: &mut [u8; PART_BYTES], next: u32)
+    requires { HoldsDisk s.old }
+    ensures { Holds s.new (with_next (decode s.old) next) }
+{
+    put_word(s, NEXT_AT, next);
 }
 
 // Grants the claim c, which is new at that second.
-pub fn grant_new(s: &mut [u8], second: u32, c: Claim, told: i32, total: u32)
+pub fn grant_new(s: &mut [u8; PART_BYTES], second: u32, c: Claim, told: i32, total: u32)
     requires holds_disk { HoldsDisk s.old }
     requires takes_grant { TakesGrant (decode s.old) second c total }
     requires told_value { told ≡ told_by (figures_in (decode s.old)) (kind_of disk_table c) }
     ensures { s.new ≡ part_for (granted_of (held s.old) second c) }
 {
-    put_numbers(s, second, NEXT_AT, c.ticket + 1);
+    put_word(s, CLOCK_AT, second);
     grant(s, c, told, total);
+    put_next(s, c.ticket + 1);
 }

@@ -16,7 +16,8 @@ use part::layout::{
     ACTIVE_AT, ACTIVES_AT, CLOCK_AT, NEXT_AT, PART_BYTES, PROMISED_AT, STAMP_IN, STATE_AT, USED_AT,
     WAITING_AT, WAITINGS_AT,
 };
-use part::read::{active_at, actives_at, promised_at, waitings_at};
+use part::read::{count_at, figures_at, slot_at};
+use part::status::Status;
 use rules::method::{PROMISED, STATE, USED, adds, sets};
 use slots::{queue_in, take_out};
 
@@ -31,7 +32,7 @@ fn store(s: &mut [u8], at: usize, value: i32, stamp: u32)
 
 // Lands the active claim w in the figures: a set stores its value, with the second of measuring as the stamp; an add adds its value to
 // promised. A reading changes nothing.
-fn land(s: &mut [u8], w: Claim)
+fn land(s: &mut [u8; PART_BYTES], w: Claim)
     requires holds_disk { HoldsDisk s.old }
     requires land_fits { LandFits (decode s.old) w }
     ensures { Holds s.new (land_of (decode s.old) w) }
@@ -50,15 +51,14 @@ fn land(s: &mut [u8], w: Claim)
         return;
     }
     if share(adds(w.method), PROMISED) {
-        let p = promised_at(s);
+        let p = figures_at(s).promised;
         put_signed(s, PROMISED_AT, narrow(plus(p.value, w.value)));
     }
 }
 
-// Puts the second of a call as the clock, and another number into the head: a count, or the next ticket.
-pub(crate) fn put_numbers(s: &mut [u8], second: u32, at: usize, n: u32)
-    requires s_len { length s.old ≡ 768 }
-    requires at_bound { at ≤ 12 }
+// Puts the second of a call as the clock, and a count into the head.
+fn put_numbers(s: &mut [u8; PART_BYTES], second: u32, at: usize, n: u32)
+    requires { at ≤ 12 }
     ensures { s.new ≡ put_word (put_word s.old 0 second) at n }
 {
     put_word(s, CLOCK_AT, second);
@@ -66,36 +66,36 @@ pub(crate) fn put_numbers(s: &mut [u8], second: u32, at: usize, n: u32)
 }
 
 // Ends the active claim at a place, at that second.
-pub fn end(s: &mut [u8], second: u32, at: usize)
+pub fn end(s: &mut [u8; PART_BYTES], second: u32, at: usize)
     requires holds_sound { HoldsSound s.old }
     requires at_bound { at < (decode s.old).actives }
     ensures { s.new ≡ part_for (ended_at (held s.old) second at) }
 {
-    let n = actives_at(s);
-    land(s, active_at(s, at));
+    let n = count_at(s, Status::Active);
+    land(s, slot_at(s, Status::Active, at));
     take_out(&mut s[ACTIVE_AT..WAITING_AT], n as usize, at);
     put_numbers(s, second, ACTIVES_AT, n - 1);
 }
 
 // Takes out the waiting claim at a place, at that second.
-pub fn leave(s: &mut [u8], second: u32, at: usize)
+pub fn leave(s: &mut [u8; PART_BYTES], second: u32, at: usize)
     requires holds_disk { HoldsDisk s.old }
     requires at_bound { at < (decode s.old).waitings }
     ensures { s.new ≡ part_for (left_at (held s.old) second at) }
 {
-    let n = waitings_at(s);
+    let n = count_at(s, Status::Waiting);
     take_out(&mut s[WAITING_AT..PART_BYTES], n as usize, at);
     put_numbers(s, second, WAITINGS_AT, n - 1);
 }
 
 // Lets the new claim c wait from that second on.
-pub fn wait(s: &mut [u8], second: u32, c: Claim)
+pub fn wait(s: &mut [u8; PART_BYTES], second: u32, c: Claim)
     requires holds_disk { HoldsDisk s.old }
     requires s_bound { (decode s.old).waitings < 8 }
     requires ticket_bound { c.ticket ≤ 999_999 }
     ensures { s.new ≡ part_for (waiting_of (held s.old) second c) }
 {
-    let n = waitings_at(s);
+    let n = count_at(s, Status::Waiting);
     queue_in(&mut s[WAITING_AT..PART_BYTES], n as usize, c);
     put_numbers(s, second, WAITINGS_AT, n + 1);
     put_word(s, NEXT_AT, c.ticket + 1);

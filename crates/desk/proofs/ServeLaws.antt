@@ -1,70 +1,83 @@
--- Laws of a call on a part: a refusal and an accepted outcome of the law as code, part and answer; the grants of a pass.
-use Prim.Native.Nat.{ℕ, ◌^◌, ◌<◌}
-use mathlib.Core.Bool.{true, false}
-use mathlib.Core.List.{List, [], ◌∷◌, map}
-use mathlib.Core.Path.{◌≡◌, refl, sym, ap, ◌∙◌}
-use borrow.Author.Tests.{eq-eqb, ne_eqb}
-use lib.ListN.{length}
-use Rattle.num.specs.Word.{word_at}
+-- Laws of a call on a part: what the answer to a claim says of the law's outcome, the grants of a pass, and the part that the end of a
+-- claim leaves.
+use Rattle.std.specs.Prelude.{ℕ, ◌^◌, ◌<◌, true, cond, ◌&&◌, Some, None, List, [], ◌∷◌, map, ◌≡◌, refl, ℤ, length}
+use Rattle.std.proofs.Common.{sym, ap, ◌∙◌, arith}
 use Rattle.law.specs.declared.Claim.{Claim}
 use Rattle.law.specs.Base.{All}
 use Rattle.law.specs.Lists.{all_append}
-use Rattle.law.specs.Types.{claim_of, Asked as LawAsked, Core, Disk as LawDisk, Item as LawItem, Outcome, refused, accepted}
+use Rattle.law.specs.Types.{Core, Disk as LawDisk, Item as LawItem, Outcome}
 use Rattle.law.specs.Granting.{grant_item}
-use Rattle.law.specs.Calls.{pass, claim, release}
-use Rattle.law.specs.History.{Call}
-use Rattle.law.specs.Sound.{sound, Sound}
-use Rattle.law.proofs.Events.{pass_keeps}
+use Rattle.law.specs.Calls.{pass, claim}
+use Rattle.law.specs.History.{Call, answered}
+use Rattle.law.specs.Sound.{sound}
 use Rattle.law.specs.DiskType.{disk_table}
-use Rattle.rules.specs.declared.disk.Disk.{Disk}
-use Rattle.rules.specs.Disks.{disk_of}
+use Rattle.law.proofs.SoundTest.{says_sound}
+use Rattle.law.proofs.Events.{pass_keeps}
 use Rattle.rules.specs.Answers.{answer_of, answer_by, NewOn, request_of}
+use Rattle.rules.proofs.CallLaws.{Says, answer_says, IsGranted, IsWaiting, IsRefused}
+use Rattle.rules.specs.Totals.{totals_of}
 use Rattle.part.specs.Layout.{decode, decodes}
 use Rattle.part.specs.Held.{held, part_for, sound_part, HoldsSound}
-use Rattle.part.specs.PartLaws.{held_part, part_sound, sound_decodes, length_part_for}
+use Rattle.part.specs.PartLaws.{disk_good, held_part, part_sound, sound_decodes, length_part_for}
 use Rattle.answer.specs.declared.Answer.{Answer}
 use Rattle.answer.specs.declared.Answer.TheVariants as A
+use Rattle.answer.specs.declared.Refusal.{Refusal}
 use Rattle.answer.specs.declared.Refusal.TheVariants as R
-use Rattle.answer.specs.Answers.{number_of, refusal_of, code_of, answer_bytes}
+use Rattle.answer.specs.Answers.{refusal_of}
+use Rattle.sound.specs.Seen.{seen_of}
 use Rattle.pass.specs.Turns.{grant_answer}
-use Rattle.desk.specs.Record.{kind_byte, now_of, asked_in, call_of}
-use Rattle.desk.specs.Step.{settled, released, serve_of, stepped, written}
+use Rattle.desk.specs.Step.{refusing, settled, serve_of}
+use Rattle.desk.proofs.ReleaseLaws.{Leaves, release_early, leaves_active, leaves_waiting, release_lost}
 
--- ---- outcomes
+-- A part that decodes, and whose disk is seen to be sound, holds a sound disk.
+pub holds : (p : List ℕ) → length p ≡ 768 → decodes p ≡ true → sound disk_table (held p) ≡ true → HoldsSound p
+holds p long whole h = record { disk = record { long = long; whole = whole }; sound = (says_sound disk_table (held p)).0 h }
 
-pub step_refused : (p : List ℕ) {o : Outcome} (m : ℕ) {n : ℕ} {a : List ℕ} → o ≡ refused m →
-    n ≡ number_of (refusal_of m) → a ≡ answer_bytes (A.Refused (refusal_of m)) [] → stepped n p a ≡ written (settled p o)
-step_refused p m e h k = (λ i. stepped (h i) p (k i)) ∙ ap (λ (o : Outcome). written (settled p o)) (sym e)
+-- What is seen of a disk.
+pub seen_is : (d : LawDisk) → seen_of d ≡ cond (sound disk_table d) (Some (totals_of d.core.active)) None
+unfolding seen_of
+seen_is d = refl
 
-pub step_accepted : (p : List ℕ) {o : Outcome} (d : LawDisk) (i : LawItem) (items : List LawItem) {n : ℕ} {q a : List ℕ} →
-    o ≡ accepted d (i ∷ items) → n ≡ code_of (answer_of i) → q ≡ part_for d → a ≡ answer_bytes (answer_of i) (map answer_of items) →
-    stepped n q a ≡ written (settled p o)
-step_accepted p d i items e h k l = (λ j. stepped (h j) (k j) (l j)) ∙ ap (λ (o : Outcome). written (settled p o)) (sym e)
+-- What a call on a part comes to, by the tests that the code makes.
+pub serve_is : (p : List ℕ) (k : Call) →
+    serve_of p k
+    ≡ cond (decodes p && sound disk_table (held p)) (settled p (answered disk_table (held p) k)) (refusing p R.Unsound)
+unfolding serve_of sound_part
+serve_is p k = refl
 
--- The answer of a claim stands alone, with no grants behind it.
-module _ (p : List ℕ) {a : Answer} (o : Outcome) (is : a ≡ answer_by o) {n : ℕ} {q b : List ℕ} (code : n ≡ code_of a) (shows : b ≡ answer_bytes a []) where
-  alone : stepped n q b ≡ stepped (code_of (answer_by o)) q (answer_bytes (answer_by o) [])
-  alone = (λ i. stepped (code i) q (shows i)) ∙ ap (λ (x : Answer). stepped (code_of x) q (answer_bytes x [])) is
+pub ruleset served = (holds, seen_is, serve_is)
 
-  pub claim_refused : (m : ℕ) → o ≡ refused m → q ≡ p → stepped n q b ≡ written (settled p o)
-  claim_refused m e k = alone ∙ rw (e, k)
+-- ---- a claim
 
-  pub claim_accepted : (d : LawDisk) (i : LawItem) → o ≡ accepted d (i ∷ []) → q ≡ part_for d → stepped n q b ≡ written (settled p o)
-  claim_accepted d i e k = alone ∙ rw (e, k)
+-- The law's outcome for a claim on a part.
+abbrev outcome : List ℕ → ℕ → Claim → Outcome
+outcome p now c = claim disk_table (held p) (request_of now c)
 
--- The claim that a record asks for, with the disk's next ticket, is new, and its request is the record's.
-module _ (r : List ℕ) {c : Claim} {t : ℕ} (is : c ≡ claim_of (asked_in r) t) where
-  pub asked_new : (d : LawDisk) → t ≡ d.next → NewOn d c
-  asked_new d e =
-      record {
-        ticket = ap (λ (x : Claim). x.ticket) is ∙ e;
-        told = ap (λ (x : Claim). x.told) is;
-        amount = ap (λ (x : Claim). x.amount) is;
-      }
+-- What the answer to a new claim on a sound part says of that outcome.
+module _ (p : List ℕ) (now : ℕ) (c : Claim) (holds : HoldsSound p) (new : NewOn (held p) c) where
+  says : {a : Answer} → a ≡ answer_by (outcome p now c) → Says (decode p) now c (outcome p now c) a
+  says e = answer_says (decode p) now c new (disk_good holds.disk) holds.sound e
 
-  pub asked_request : {now : ℕ} → now ≡ now_of r → request_of now c ≡ asked_in r
-  unfolding asked_in
-  asked_request e = λ i. request_of (e i) (is i)
+  pub claim_grants : {t m : ℕ} {z : ℤ} → A.Granted t z m ≡ answer_by (outcome p now c) → IsGranted (decode p) now c z m (outcome p now c)
+  claim_grants e = says e
+
+  pub claim_waits : {t : ℕ} → A.Waits t ≡ answer_by (outcome p now c) → IsWaiting (decode p) now c (outcome p now c)
+  claim_waits e = says e
+
+  pub claim_refuses : {r : Refusal} → A.Refused r ≡ answer_by (outcome p now c) → refusing p r ≡ settled p (outcome p now c)
+  claim_refuses {r} e =
+      let o : IsRefused (outcome p now c) = says e in
+      let same : A.Refused r ≡ A.Refused (refusal_of o.number) = rw o.is at e in
+      rw o.is (cc)
+
+  -- A claim is never released or opened.
+  pub never_released : {t : ℕ} → A.Released t ≡ answer_by (outcome p now c) → ⊥
+  never_released e = says e
+
+  pub never_opened : A.Opened ≡ answer_by (outcome p now c) → ⊥
+  never_opened e = says e
+
+pub ruleset claim_answers = (claim_grants, claim_waits, claim_refuses, never_released, never_opened)
 
 -- ---- the grants of a pass
 
@@ -88,52 +101,25 @@ pass_answers s ws =
     (λ u ahead c rest items g h. all_append _ items (grant_item disk_table u c ∷ []) h (refl, tt))
     (record { core = s; ahead = []; items = [] }) ws tt)
 
--- ---- what an end leaves
+-- ---- what the end of a claim leaves
 
--- The part of a sound disk decodes, and holds it.
-module _ {p : List ℕ} (e : LawDisk) (s : Sound disk_table e) (t : e.core.clock < 2 ^ 32) (is : p ≡ part_for e) where
-  made_held : held p ≡ e
-  made_held = ap held is ∙ held_part e s t
+module _ {d e : LawDisk} {now n : ℕ} (left : Leaves d now n e) (small : now < 2 ^ 32) where
+  clock_fits : e.core.clock < 2 ^ 32
+  clock_fits = omega (arith, left.clock, small)
 
-  pub made : HoldsSound p
-  made =
+  -- The part of a sound disk holds it.
+  pub left_held : held (part_for e) ≡ e
+  left_held = held_part e left.sound clock_fits
+
+  pub left_sound : HoldsSound (part_for e)
+  left_sound =
       record {
         disk =
             record {
-              long = ap length is ∙ length_part_for e s.few_active s.few_waiting;
-              whole = rw is (sound_decodes (part_for e) (part_sound e s t));
+              long = length_part_for e left.sound.few_active left.sound.few_waiting;
+              whole = sound_decodes (part_for e) (part_sound e left.sound clock_fits);
             };
-        sound = rw made_held s;
+        sound = rw left_held left.sound;
       }
 
-  -- The pass over it is that of the release.
-  pub settle_as : (q : List ℕ) (ticket : ℕ) {o : Outcome} {n : ℕ} {r a : List ℕ} → o ≡ released e ticket →
-      stepped n r a ≡ written (settled p (released (held p) ticket)) → stepped n r a ≡ written (settled q o)
-  unfolding released
-  settle_as q ticket k h =
-      h ∙ ap (λ (d : LawDisk). written (settled p (released d ticket))) made_held ∙ ap (λ (o : Outcome). written (settled q o)) (sym k)
-
--- ---- the part: 14, or the law's outcome on the disk that it holds
-
-module _ (p : List ℕ) {n : ℕ} {a : List ℕ} where
-  pub serve_undecoded : (k : Call) → decodes p ≡ false → n ≡ 14 → a ≡ answer_bytes (A.Refused R.Unsound) [] →
-      stepped n p a ≡ written (serve_of p k)
-  unfolding serve_of sound_part
-  serve_undecoded k e h l = rw e (λ i. stepped (h i) p (l i))
-
-  module _ (good : decodes p ≡ true) {d : Disk} (reads : d ≡ decode p) where
-    pub serve_unsound : (k : Call) → sound disk_table (disk_of d) ≡ false → n ≡ 14 → a ≡ answer_bytes (A.Refused R.Unsound) [] →
-        stepped n p a ≡ written (serve_of p k)
-    unfolding serve_of sound_part
-    serve_unsound k e h l = rw (good, rw reads at e) (λ i. stepped (h i) p (l i))
-
-    module _ (holds : sound disk_table (disk_of d) ≡ true) (r : List ℕ) where
-      pub serve_claims : {q : LawAsked} {s : List ℕ} → q ≡ asked_in r → kind_byte r ≡ 2 →
-          stepped n s a ≡ written (settled p (claim disk_table (disk_of d) q)) → stepped n s a ≡ written (serve_of p (call_of r))
-      unfolding serve_of sound_part
-      serve_claims e k h = rw (good, rw reads at holds, eq-eqb (kind_byte r) 2 k) (rw (reads, e) at h)
-
-      pub serve_releases : {now t : ℕ} {s : List ℕ} → now ≡ now_of r → t ≡ word_at r 12 → (kind_byte r ≡ 2 → ⊥) →
-          stepped n s a ≡ written (settled p (release disk_table (disk_of d) now t)) → stepped n s a ≡ written (serve_of p (call_of r))
-      unfolding serve_of sound_part
-      serve_releases e f k h = rw (good, rw reads at holds, ne_eqb (kind_byte r) 2 k) (rw (reads, e, f) at h)
+pub ruleset releases = (release_early, leaves_active, leaves_waiting, release_lost, left_held)

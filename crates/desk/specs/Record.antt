@@ -1,11 +1,17 @@
 -- A request record: 24 bytes, little-endian. When it is well formed, and the request that it holds.
-use Rattle.std.specs.Prelude.{ℕ, Bool, true, false, cond, List, [], ◌∷◌, leb, eqb, length, take, drop, get_or}
+use Rattle.std.specs.Prelude.{ℕ, Bool, true, false, cond, ◌≡◌, Result, Ok, Err, List, [], ◌∷◌, leb, eqb, length, take, drop, get_or}
 use Rattle.num.specs.Word.{word_at}
 use Rattle.num.specs.Signed.{signed_at}
 use Rattle.num.specs.Runs.{flat, all_zero}
 use Rattle.law.specs.Base.{all_true}
 use Rattle.law.specs.Types.{most_flag, Asked}
 use Rattle.law.specs.History.{Call, claims, releases}
+use Rattle.std.specs.Borrow.{Bor}
+use Rattle.answer.specs.declared.Refusal.{Refusal}
+use Rattle.answer.specs.declared.Refusal.TheVariants as R
+use Rattle.desk.specs.declared.record.Kind.{Kind}
+use Rattle.desk.specs.declared.record.Kind.TheVariants as K
+use Rattle.desk.specs.declared.record.Unknown.{Unknown}
 
 abbrev pub byte_at : List ℕ → ℕ → ℕ
 byte_at r i = get_or r i 0
@@ -49,6 +55,15 @@ well_formed r =
     ∷ leb (byte_at r 6) most_flag
     ∷ kind_fits r (kind_byte r)
     ∷ [])
+
+-- The record that is read in lent bytes: the bytes themselves where they are well formed, else refusal 10.
+abbrev pub RecordIn : List ℕ → Result (Bor (List ℕ)) Refusal → Type 0
+RecordIn r (Ok s) = (well_formed r ≡ true) × (s.now ≡ r)
+RecordIn r (Err e) = (well_formed r ≡ false) × (e ≡ R.Record)
+
+-- The kinds by their numbers; any other number is none.
+abbrev pub kind_of : ℕ → Result Kind Unknown
+kind_of n = cond (eqb n 1) (Ok K.Open) (cond (eqb n 2) (Ok K.Claim) (cond (eqb n 3) (Ok K.Release) (Err (record {}))))
 
 -- ---- the request
 

@@ -1,6 +1,6 @@
 -- What a call comes to, from bytes to bytes: lengths (9), record (10), disk (11), open bit (12, 13), the disk's part (14), and on it
 -- the law of one disk (15 to 21, grants and passes).
-use Rattle.std.specs.Prelude.{ℕ, cond, ◌&&◌, List, [], ◌∷◌, map, leb, eqb, length}
+use Rattle.std.specs.Prelude.{ℕ, cond, ◌&&◌, ◌≡◌, Result, Ok, Err, List, [], ◌∷◌, map, leb, eqb, length}
 use Rattle.num.specs.Opened.{open_at, set_open}
 use Rattle.law.specs.Types.{Disk as LawDisk, Item, Outcome, refused, accepted}
 use Rattle.law.specs.Calls.{item, pass, open_disk}
@@ -102,6 +102,12 @@ stepped n s a = record { code = n; bytes = s; answer = a }
 -- All of the answer buffer is rewritten; the call returns the first item's code.
 abbrev pub written : Effect → Stepped
 written t = stepped (code_of (own_of t.said)) t.bytes (answer_bytes (own_of t.said) (grants_of t.said))
+
+-- What a call that may be refused leaves of the bytes lent to be written and of the answer buffer. An accepted one returns its code, and
+-- its answer stands in the buffer; of a refused one the refusal is still to be put there, and the bytes are as they were.
+abbrev pub Ends : Result ℕ Refusal → List ℕ → List ℕ → Effect → Type 0
+Ends (Ok n) s a t = stepped n s a ≡ written t
+Ends (Err r) s a t = refusing s r ≡ t
 
 -- 9 is returned alone: neither buffer is touched.
 unfoldable pub step_of : List ℕ → List ℕ → List ℕ → Stepped

@@ -1,26 +1,22 @@
 // The claim of a ticket on a part, found where it stands.
 
-ghost use Rattle.std.specs.Prelude.{◌≡◌};
-ghost use Rattle.rules.specs.Rows.{place_of};
-ghost use Rattle.part.specs.Held.{held, HoldsDisk};
+ghost use Rattle.std.specs.Prelude.{◌≡◌, take};
+ghost use Rattle.rules.specs.Rows.{found_in};
+ghost use Rattle.part.specs.Layout.{decode};
+ghost use Rattle.part.specs.Held.{HoldsDisk};
+ghost use Rattle.part.specs.Status.{count_in, places_in};
 
-use part::layout::{ACTIVE_AT, PART_BYTES, WAITING_AT};
-use part::read::{actives_at, waitings_at};
+use part::layout::{PART_BYTES, SLOTS_BYTES};
+use part::read::count_at;
+use part::status::Status;
 use slots::find_in;
 
-// The place of a ticket among the active claims, and among the waiting ones; how many these are where none has it.
-pub(crate) fn find_active(s: &[u8], ticket: u32) -> usize
+// The place of a ticket among the active claims, or among those that wait, if one has it.
+pub(crate) fn find(s: &[u8; PART_BYTES], status: Status, ticket: u32) -> Option<usize>
     requires { HoldsDisk s.now }
-    ensures { result ≡ place_of ticket (held s.now).core.active }
+    ensures { result ≡ found_in ticket (take (count_in status (decode s.now)) (places_in status (decode s.now))) }
 {
-    let n = actives_at(s) as usize;
-    find_in(&s[ACTIVE_AT..WAITING_AT], n, ticket)
-}
-
-pub(crate) fn find_waiting(s: &[u8], ticket: u32) -> usize
-    requires { HoldsDisk s.now }
-    ensures { result ≡ place_of ticket (held s.now).waiting }
-{
-    let n = waitings_at(s) as usize;
-    find_in(&s[WAITING_AT..PART_BYTES], n, ticket)
+    let n = count_at(s, status) as usize;
+    let at = status.slots_at();
+    find_in(&s[at..at + SLOTS_BYTES], n, ticket)
 }

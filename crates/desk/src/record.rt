@@ -1,24 +1,25 @@
 // A request record in lent bytes.
 
-ghost use Rattle.std.specs.Prelude.{◌≡◌, length};
+ghost use Rattle.std.specs.Prelude.{◌≡◌};
 ghost use Rattle.law.specs.Types.{claim_of};
-ghost use Rattle.desk.specs.Record.{well_formed, kind_fits, asked_in, laid_out};
+ghost use Rattle.desk.specs.Record.{kind_of, well_formed, kind_fits, asked_in, laid_out, RecordIn};
 
+use answer::Refusal;
 use law::Claim;
 use law::limits::MOST_FLAG;
 use num::signed::signed_at;
-use num::truth::both;
 use num::word::{put_word, word_at};
 use part::whole::zero_between;
 
-const RECORD_BYTES: usize = 24;
+pub const RECORD_BYTES: usize = 24;
 
-// The places of a record. From 12 on they differ by kind: a claim has a second of measuring, a value and an error, an open the limits
-// of used and promised, a release its ticket.
+// What its first two bytes are.
 const MARK: u8 = 0x52;
 
 const MARK_TOO: u8 = 0x42;
 
+// The places of a record. From 12 on they differ by kind: a claim has a second of measuring, a value and an error, an open the limits
+// of used and promised, a release its ticket.
 pub const KIND_AT: usize = 2;
 
 pub const DISK_AT: usize = 3;
@@ -45,68 +46,85 @@ const ERROR_AT: usize = 20;
 
 pub const PROMISED_LIMIT_AT: usize = 20;
 
-// The kinds.
-pub const OPEN: u8 = 1;
+// The kinds of record, 1 to 3.
+#[derive(Clone, Copy, PartialEq, Eq, Debug)]
+pub enum Kind {
+    Open,
+    Claim,
+    Release,
+}
 
-pub const CLAIM: u8 = 2;
+// The number of no kind.
+#[derive(Clone, Copy, PartialEq, Eq, Debug)]
+pub struct Unknown;
 
-const RELEASE: u8 = 3;
+impl TryFrom<u8> for Kind {
+    type Error = Unknown;
 
-// Whether a record is well formed: no refusal 10.
-pub(crate) fn well_formed(r: &[u8]) -> bool
+    ghost try_from_gives = { λ n r. r ≡ kind_of n };
+
+    fn try_from(n: u8) -> Result<Kind, Unknown> {
+        match n {
+            1 => Ok(Kind::Open),
+            2 => Ok(Kind::Claim),
+            3 => Ok(Kind::Release),
+            _ => Err(Unknown),
+        }
+    }
+}
+
+// The record in lent bytes; one that is not well formed is refused 10.
+#[tactic(auto, unfolding(crate::specs::Record::well_formed))]
+pub(crate) fn record_in(r: &[u8]) -> Result<&[u8; RECORD_BYTES], Refusal>
+    ensures { RecordIn r.now result }
+{
+    let Ok(record) = <&[u8; RECORD_BYTES]>::try_from(r) else {
+        return Err(Refusal::Record);
+    };
+    if !well_formed(record) {
+        return Err(Refusal::Record);
+    }
+    Ok(record)
+}
+
+// Whether the mark is there, byte 7 is zero, the flag is in range, and the kind fits.
+#[tactic(auto, unfolding(crate::specs::Record::well_formed))]
+fn well_formed(r: &[u8; RECORD_BYTES]) -> bool
     ensures { result ≡ well_formed r.now }
 {
-    if r.len() != RECORD_BYTES {
-        return false;
-    }
-    if r[0] != MARK {
-        return false;
-    }
-    if r[1] != MARK_TOO {
-        return false;
-    }
-    if r[ZERO_AT] != 0 {
-        return false;
-    }
-    if MOST_FLAG < r[FLAG_AT] as u32 {
-        return false;
-    }
-    kind_fits(r, r[KIND_AT])
+    r[0] == MARK
+        && r[1] == MARK_TOO
+        && r[ZERO_AT] == 0
+        && u32::from(r[FLAG_AT]) <= MOST_FLAG
+        && kind_fits(r, r[KIND_AT])
 }
 
 // Whether the kind is known, and the bytes that it does not use are zero.
-fn kind_fits(r: &[u8], kind: u8) -> bool
-    requires { length r.now ≡ 24 }
+fn kind_fits(r: &[u8; RECORD_BYTES], kind: u8) -> bool
     ensures { result ≡ kind_fits r.now kind }
 {
-    if kind == OPEN {
-        return both(
-            zero_between(r, METHOD_AT, ZERO_AT),
-            zero_between(r, MEASURED_AT, USED_LIMIT_AT),
-        );
+    match Kind::try_from(kind) {
+        Ok(Kind::Open) => {
+            zero_between(r, METHOD_AT, ZERO_AT) & zero_between(r, MEASURED_AT, USED_LIMIT_AT)
+        }
+        Ok(Kind::Claim) => true,
+        Ok(Kind::Release) => {
+            zero_between(r, METHOD_AT, ZERO_AT) & zero_between(r, VALUE_AT, RECORD_BYTES)
+        }
+        Err(Unknown) => false,
     }
-    if kind == CLAIM {
-        return true;
-    }
-    if kind == RELEASE {
-        return both(
-            zero_between(r, METHOD_AT, ZERO_AT),
-            zero_between(r, VALUE_AT, RECORD_BYTES),
-        );
-    }
-    false
 }
 
 // The claim that a record asks for, with the ticket that it would take.
-pub(crate) fn asked_in(r: &[u8], ticket: u32) -> Claim
-    requires { length r.now ≡ 24 }
+#[tactic(auto, unfolding(crate::specs::Record::asked_in))]
+pub(crate) fn asked_in(r: &[u8; RECORD_BYTES], ticket: u32) -> Claim
     ensures { result ≡ claim_of (asked_in r.now) ticket }
 {
     Claim {
         ticket,
-        method: r[METHOD_AT] as u32,
-        priority: r[PRIORITY_AT] as u32,
-        flag: r[FLAG_AT] as u32,
+        method: u32::from(r[METHOD_AT]),
+        priority: u32::from(r[PRIORITY_AT]),
+        flag: u32::from(r[FLAG_AT]),
         measured: word_at(r, MEASURED_AT),
         value: signed_at(r, VALUE_AT),
         error: word_at(r, ERROR_AT),
@@ -116,6 +134,7 @@ pub(crate) fn asked_in(r: &[u8], ticket: u32) -> Claim
 }
 
 // A record with these fields: the bytes in their order, then the words at 8, 12, 16 and 20. Whether it is well formed is another matter.
+#[tactic(auto, unfolding(num::specs::Word::put_word, num::specs::Runs::flat, num::specs::Runs::le4))]
 pub fn laid_out(kind: u8, disk: u8, method: u8, priority: u8, flag: u8, words: [u32; 4]) -> [u8; 24]
     ensures { result ≡ laid_out kind disk method priority flag words }
 {

@@ -1,6 +1,7 @@
 -- What the walks over the claims of a disk ask of each, and the decision that they come to.
-use Rattle.std.specs.Prelude.{ℕ, Bool, true, false, List, ◌≡◌, take}
+use Rattle.std.specs.Prelude.{ℕ, Bool, true, false, cond, Option, Some, None, List, ◌≡◌, take}
 use Rattle.law.specs.declared.Claim.{Claim}
+use Rattle.law.specs.Base.{every_of, sum_of}
 use Rattle.law.specs.Types.{Figures, Core}
 use Rattle.law.specs.Entries.{kind_at, entry_by}
 use Rattle.law.specs.Granting.{total, granted}
@@ -33,7 +34,15 @@ bars_of f now sum c = bars_at f now sum c.priority c.method
 abbrev pub actives_in : Disk → List Claim
 actives_in d = take d.actives d.active
 
--- A decision on a claim behind those ahead, and its total where it is granted, else 0.
+-- The lock step of c over active claims: what they add to its total, if each lets it pass.
+unfoldable pub locked : Figures → Claim → List Claim → Option ℕ
+locked f c ws = cond (every_of (lets_of f c) ws) (Some (sum_of (cost_of f c) ws)) None
+
+-- The decision on a claim behind those ahead: its total, if it is granted.
+unfoldable pub decided : Core → List Claim → Claim → Option ℕ
+decided s ahead c = cond (granted disk_table s ahead c) (Some (total disk_table s c)) None
+
+-- A decision on a claim behind those ahead, and its total where it is granted, else 0: what `decided` says, in two values.
 pub record DecidedIs (ok : Bool) (sum : ℕ) (s : Core) (ahead : List Claim) (c : Claim) : Type 0 where
   pub says : ok ≡ granted disk_table s ahead c
   pub counts : ok ≡ true → sum ≡ total disk_table s c

@@ -14,33 +14,28 @@ use answer::{Answer, Refusal};
 use law::Claim;
 use law::limits::PLACES;
 use num::signed::narrow;
-use part::read::{clock_at, promised_at, state_at, used_at, waitings_at};
-use rules::fields::{Tested, checked};
-use rules::figures::told;
+use part::layout::PART_BYTES;
+use part::read::{clock_at, count_at, figures_at};
+use part::status::Status;
+use rules::fields::checked;
 use rules::totals::Totals;
 
 pub mod decision;
 
 // The answer to the new claim c at that second, on the disk of a part whose active claims have these totals. Nothing is changed.
-pub fn judged(s: &[u8], c: Claim, second: u32, t: Totals) -> Answer
+pub fn judged(s: &[u8; PART_BYTES], c: Claim, second: u32, t: Totals) -> Answer
     requires holds_sound { HoldsSound s.now }
     requires new_on { NewOn (held s.now) c }
     requires t_value { t ≡ totals_of (held s.now).core.active }
     ensures { result ≡ answer_by (law_claim disk_table (held s.now) (request_of second c)) }
 {
-    let used = used_at(s);
-    let promised = promised_at(s);
-    let state = state_at(s);
-    let tested = checked(c, second, clock_at(s), used, promised, state);
-    if let Tested::Refused(r) = tested {
+    let f = figures_at(s);
+    if let Err(r) = checked(&f, c, second, clock_at(s)) {
         return Answer::Refused(r);
     }
-    let waitings = waitings_at(s);
-    let verdict = decide(s, waitings as usize, c, second, t);
-    if verdict.ok {
-        let present = narrow(told(c.method, used, promised, state));
-        let total = verdict.total as u32;
-        return Answer::Granted(c.ticket, present, total);
+    let waitings = count_at(s, Status::Waiting);
+    if let Some(total) = decide(s, waitings as usize, c, second, t) {
+        return Answer::Granted(c.ticket, narrow(f.told(c.method)), total as u32);
     }
     if PLACES <= waitings {
         return Answer::Refused(Refusal::Full);

@@ -1,6 +1,6 @@
 -- Laws of a grant: which tests it has passed; the starting amount is within its limit; the lock step is 01's walk claim by
 -- claim; an answer shows the amount at that grant, whatever the pass grants after it.
-use Prim.Native.Nat.{ℕ, ◌+◌, ◌≤◌, ◌<◌}
+use Prim.Native.Nat.{ℕ, ◌+◌, ◌≤◌}
 use Rattle.std.specs.Prelude.{Bool, true, false, cond, not, ◌&&◌, ◌≡◌, length, leb}
 use Rattle.std.proofs.Math.Bool.{and-false}
 use Rattle.std.proofs.Common.{true≢false, ◌∙◌, arith}
@@ -11,14 +11,14 @@ use Rattle.num.specs.Metric.{size, dist}
 use Rattle.law.specs.declared.Claim.{Claim}
 use Rattle.law.specs.declared.Entry.{Entry}
 use Rattle.law.specs.declared.Entry.TheVariants.{A, N, D, G}
-use Rattle.law.specs.Base.{all_true, every_of, sum_of, All}
+use Rattle.law.specs.Base.{all_true, every_of, sum_of}
 use Rattle.law.specs.Lists.{never_true, sum-append, sum-map, passed}
 use Rattle.law.specs.Says.{by_test, says_every, says_self, says_fails}
 use Rattle.law.specs.Types.{places, Attribute, a0, a1, a2, Kind, sets, adds, reads, Table, Figures, attr, put_attr, Core, Item}
-use Rattle.law.specs.Granting.{adds_to, start_by, limit_by, cost_by, amount_by, with_amount, note_by, adds_on, addable, bearable, ranged, precondition_tests, preconditions, start, limit, gap, cost, total, stays, lock_tests, lock_step, grant_tests, granted, raised, as_granted, grant, grant_item}
+use Rattle.law.specs.Granting.{adds_to, start_by, limit_by, cost_by, amount_by, with_amount, note_by, adds_on, addable, bearable, precondition_tests, preconditions, start, limit, gap, cost, total, stays, lock_tests, lock_step, grant_tests, granted, raised, as_granted, grant, grant_item}
 use Rattle.law.specs.Calls.{Passing, turn, pass_over}
 use Rattle.law.specs.Fields.{OwnFits}
-use Rattle.law.specs.MayGrant.{NotNever, MayGrant}
+use Rattle.law.specs.MayGrant.{MayGrant}
 use Rattle.law.specs.Entries.{is_never, kind_of, entry}
 use Rattle.law.specs.Readings.{carried}
 

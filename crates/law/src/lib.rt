@@ -7,7 +7,7 @@ pub mod limits;
 
 // An attribute of a disk: its value, its stamp, the amount of error it carries, and the limit of that
 // amount.
-#[derive(Clone, Copy)]
+#[derive(Clone, Copy, PartialEq, Eq, Debug)]
 pub struct Attr {
     pub value: i32,
     pub stamp: u32,
@@ -17,7 +17,7 @@ pub struct Attr {
 
 // A claim on a method of a disk. `error` is a write's own error or a reading's stated limit;
 // `told` and `amount` are 0 except in an active reading.
-#[derive(Clone, Copy)]
+#[derive(Clone, Copy, PartialEq, Eq, Debug, Default)]
 pub struct Claim {
     pub ticket: u32,
     pub method: u32,
@@ -32,7 +32,7 @@ pub struct Claim {
 
 // An entry of the compatibility table: always, never, the distance of two sets, the gap between a
 // reading and a write.
-#[derive(Clone, Copy)]
+#[derive(Clone, Copy, PartialEq, Eq, Debug)]
 pub enum Entry {
     A,
     N,

@@ -1,9 +1,8 @@
-// Numbers in lent bytes: words, signed words and their metric, bits of a mask, the open word; and two tests at once.
+// Numbers in lent bytes: words, signed words and their metric, bits of a mask, the open word.
 
 #![tactic(auto)]
 
 pub mod bits;
 pub mod opened;
 pub mod signed;
-pub mod truth;
 pub mod word;

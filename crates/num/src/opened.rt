@@ -4,7 +4,6 @@ ghost use Rattle.std.specs.Prelude.{◌≡◌, ◌≤◌, ◌<◌, length};
 ghost use Rattle.num.specs.Opened.{open_at, set_open, open_count, open_word};
 
 use crate::bits::bit;
-use crate::word::word_at;
 
 // Whether a disk is open.
 pub fn is_open(s: &[u8], d: usize) -> bool
@@ -21,7 +20,7 @@ pub fn set_open(s: &mut [u8], d: usize)
     requires in_bounds { 8 ≤ length s.old }
     ensures { s.new ≡ set_open s.old d }
 {
-    s[d / 8] = s[d / 8] | 1 << (d % 8);
+    s[d / 8] |= 1 << (d % 8);
 }
 
 // How many disks are open.
@@ -30,7 +29,7 @@ pub fn open_count(s: &[u8]) -> u32
     ensures value { result ≡ open_count s.now }
     ensures upper_bound { result ≤ 64 }
 {
-    u64::count_ones(open_word(s))
+    open_word(s).count_ones()
 }
 
 // The eight bytes as one number.
@@ -38,5 +37,5 @@ pub(crate) fn open_word(s: &[u8]) -> u64
     requires { 8 ≤ length s.now }
     ensures { result ≡ open_word s.now }
 {
-    word_at(s, 0) as u64 + word_at(s, 4) as u64 * 4294967296
+    u64::from_le_bytes([s[0], s[1], s[2], s[3], s[4], s[5], s[6], s[7]])
 }

@@ -10,22 +10,14 @@ use crate::word::{put_word, word_at};
 pub(crate) fn to_signed(x: u32) -> i32
     ensures { result ≡ signed_of x }
 {
-    if x < 2147483648 {
-        x as i32
-    } else {
-        (x as i64 - 4294967296) as i32
-    }
+    x.cast_signed()
 }
 
 // The word that stands for a figure.
 pub fn to_word(z: i32) -> u32
     ensures { result ≡ word_of z }
 {
-    if z < 0 {
-        (z as i64 + 4294967296) as u32
-    } else {
-        z as u32
-    }
+    z.cast_unsigned()
 }
 
 // The figure at an index.

@@ -1,22 +1,12 @@
 -- Laws of the test whether a part decodes: the ranges that it looks at are those of the slots.
-use Prim.Native.Nat.{ℕ, zero, suc, ◌+◌, ◌*◌, ◌-◌, ◌≤◌, ◌<◌}
+use Prim.Native.Nat.{ℕ, ◌+◌, ◌*◌, ◌-◌, ◌≤◌, ◌<◌}
 use mathlib.Core.Bool.{false, ◌&&◌, and-true}
 use mathlib.Core.List.{List}
-use mathlib.Core.Logic.{◌≢◌}
 use mathlib.Core.Path.{◌≡◌, refl, ap, ◌∙◌}
 use native.Mathlib.Omega.{arith}
 use borrow.Author.Tests.{lt-leb, le-leb}
 use Rattle.part.specs.Layout.{zero_at, spare_zero, slots_whole}
 use Rattle.part.specs.ByteLaws.{zero_split}
-
--- A number that is none of the first k is k or above.
-abbrev pub none_of : ℕ → ℕ → Type 0
-none_of zero n = Unit {0}
-none_of (suc k) n = none_of k n × (n ≢ k)
-
-pub past : (k n : ℕ) → none_of k n → k ≤ n
-past zero n h = omega arith
-past (suc k) n h = omega (arith, past k n h.0, h.1)
 
 module _ (s : List ℕ) (at : ℕ) where
   -- Behind n claims, the bytes up to the end e of the slots are a range that is to be zero.

@@ -4,5 +4,6 @@
 
 pub mod layout;
 pub mod read;
+pub mod status;
 pub mod whole;
 pub mod write;

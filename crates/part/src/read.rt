@@ -2,83 +2,59 @@
 
 ghost use Rattle.std.specs.Prelude.{◌≡◌, ◌+◌, ◌≤◌, ◌<◌, length, take, drop, get_or};
 ghost use Rattle.rules.specs.Rows.{no_claim};
-ghost use Rattle.part.specs.Layout.{claim_in, slots, attr_at, state_in, decode};
+ghost use Rattle.rules.specs.Disks.{figures_at};
+ghost use Rattle.part.specs.Layout.{claim_in, attr_at, state_in, decode};
+ghost use Rattle.part.specs.Status.{count_in, places_in};
 
 use crate::layout::{
-    ACTIVE_AT, ACTIVES_AT, AMOUNT_IN, CLOCK_AT, LIMIT_IN, NEXT_AT, PROMISED_AT, SLOT_AMOUNT,
-    SLOT_BYTES, SLOT_ERROR, SLOT_FLAG, SLOT_MEASURED, SLOT_METHOD, SLOT_PRIORITY, SLOT_TICKET,
-    SLOT_TOLD, SLOT_VALUE, STAMP_IN, STATE_AT, USED_AT, WAITING_AT, WAITINGS_AT,
+    AMOUNT_IN, CLOCK_AT, LIMIT_IN, NEXT_AT, PART_BYTES, PROMISED_AT, SLOT_AMOUNT, SLOT_BYTES,
+    SLOT_ERROR, SLOT_FLAG, SLOT_MEASURED, SLOT_METHOD, SLOT_PRIORITY, SLOT_TICKET, SLOT_TOLD,
+    SLOT_VALUE, STAMP_IN, STATE_AT, USED_AT,
 };
+use crate::status::Status;
 use law::{Attr, Claim};
 use num::signed::signed_at;
 use num::word::word_at;
+use rules::figures::Figures;
 
-// The numbers of the head: the clock, the next ticket, and how many claims are active and how many wait.
-pub fn clock_at(s: &[u8]) -> u32
-    requires { length s.now ≡ 768 }
+// The clock.
+pub fn clock_at(s: &[u8; PART_BYTES]) -> u32
     ensures { result ≡ (decode s.now).clock }
 {
     word_at(s, CLOCK_AT)
 }
 
-pub fn next_at(s: &[u8]) -> u32
-    requires { length s.now ≡ 768 }
+// The next ticket.
+pub fn next_at(s: &[u8; PART_BYTES]) -> u32
     ensures { result ≡ (decode s.now).next }
 {
     word_at(s, NEXT_AT)
 }
 
-pub fn actives_at(s: &[u8]) -> u32
-    requires { length s.now ≡ 768 }
-    ensures { result ≡ (decode s.now).actives }
+// How many claims are active, or wait.
+pub fn count_at(s: &[u8; PART_BYTES], status: Status) -> u32
+    ensures { result ≡ count_in status (decode s.now) }
 {
-    word_at(s, ACTIVES_AT)
+    word_at(s, status.count_at())
 }
 
-pub fn waitings_at(s: &[u8]) -> u32
-    requires { length s.now ≡ 768 }
-    ensures { result ≡ (decode s.now).waitings }
+// The three figures.
+pub fn figures_at(s: &[u8; PART_BYTES]) -> Figures
+    ensures { result ≡ figures_at (decode s.now) }
 {
-    word_at(s, WAITINGS_AT)
+    Figures {
+        used: attr_at(s, USED_AT),
+        promised: attr_at(s, PROMISED_AT),
+        state: state_in(s, STATE_AT),
+    }
 }
 
-// The three figures of a part.
-pub fn used_at(s: &[u8]) -> Attr
-    requires { length s.now ≡ 768 }
-    ensures { result ≡ (decode s.now).used }
+// The claim in a slot of the active claims, or of those that wait.
+pub fn slot_at(s: &[u8; PART_BYTES], status: Status, i: usize) -> Claim
+    requires { i < 8 }
+    ensures { result ≡ get_or (places_in status (decode s.now)) i no_claim }
 {
-    attr_at(s, USED_AT)
-}
-
-pub fn promised_at(s: &[u8]) -> Attr
-    requires { length s.now ≡ 768 }
-    ensures { result ≡ (decode s.now).promised }
-{
-    attr_at(s, PROMISED_AT)
-}
-
-pub fn state_at(s: &[u8]) -> Attr
-    requires { length s.now ≡ 768 }
-    ensures { result ≡ (decode s.now).state }
-{
-    state_in(s, STATE_AT)
-}
-
-// The claim of an active slot, and of a waiting one, read where it stands.
-pub fn active_at(s: &[u8], i: usize) -> Claim
-    requires s_len { length s.now ≡ 768 }
-    requires i_bound { i < 8 }
-    ensures { result ≡ get_or (decode s.now).active i no_claim }
-{
-    claim_at(s, ACTIVE_AT + SLOT_BYTES * i)
-}
-
-pub fn waiting_at(s: &[u8], i: usize) -> Claim
-    requires s_len { length s.now ≡ 768 }
-    requires i_bound { i < 8 }
-    ensures { result ≡ get_or (decode s.now).waiting i no_claim }
-{
-    claim_at(s, WAITING_AT + SLOT_BYTES * i)
+    claim_at(s, status.slots_at() + SLOT_BYTES * i)
 }
 
 // The four figures of used or promised.

@@ -7,13 +7,11 @@ use crate::layout::{
     ACTIVE_AT, ACTIVES_AT, HEAD_SPARE_AT, PART_BYTES, SLOT_BYTES, SLOT_SPARE, SLOTS_BYTES,
     WAITING_AT, WAITINGS_AT,
 };
-use num::truth::both;
 use num::word::word_at;
 
 // Whether a part decodes. Where nothing waits, as often, the waiting slots are one range that the compiler knows; where nothing is
 // active either, all slots are one.
-pub fn decodes(s: &[u8]) -> bool
-    requires { length s.now ≡ 768 }
+pub fn decodes(s: &[u8; PART_BYTES]) -> bool
     ensures { result ≡ decodes s.now }
 {
     let spare = zero_words(s, HEAD_SPARE_AT, 2);
@@ -21,23 +19,11 @@ pub fn decodes(s: &[u8]) -> bool
     let waitings = word_at(s, WAITINGS_AT);
     if waitings == 0 {
         if actives == 0 {
-            return both(spare, zero_between(s, ACTIVE_AT, PART_BYTES));
+            return spare & zero_between(s, ACTIVE_AT, PART_BYTES);
         }
-        return both(
-            spare,
-            both(
-                slots_whole(s, ACTIVE_AT, actives),
-                zero_between(s, WAITING_AT, PART_BYTES),
-            ),
-        );
+        return spare & slots_whole(s, ACTIVE_AT, actives) & zero_between(s, WAITING_AT, PART_BYTES);
     }
-    both(
-        spare,
-        both(
-            slots_whole(s, ACTIVE_AT, actives),
-            slots_whole(s, WAITING_AT, waitings),
-        ),
-    )
+    spare & slots_whole(s, ACTIVE_AT, actives) & slots_whole(s, WAITING_AT, waitings)
 }
 
 // Whether of eight slots the first `n` hold claims, and the others are zero. Each number has its own arm, so that the compiler
@@ -68,10 +54,7 @@ fn claims_then_zero(s: &[u8], at: usize, n: usize, words: usize) -> bool
     requires words_bound { 44 * n + 4 * words ≤ 352 }
     ensures { result ≡ slots_whole s.now at n }
 {
-    both(
-        spare_zero(s, at, n),
-        zero_from(s, at + SLOT_BYTES * n, words, at + SLOTS_BYTES),
-    )
+    spare_zero(s, at, n) & zero_from(s, at + SLOT_BYTES * n, words, at + SLOTS_BYTES)
 }
 
 // Whether the two words behind the figures are zero in each of `n` slots: all are joined, and tested once.
@@ -79,12 +62,10 @@ fn spare_zero(s: &[u8], at: usize, n: usize) -> bool
     requires { at + 44 * n ≤ length s.now }
     ensures { result ≡ spare_zero s.now at n }
 {
-    let mut all: u32 = 0;
-    let mut i: usize = 0;
-    while i < n {
+    let mut all = 0;
+    for i in 0..n {
         let p = at + SLOT_BYTES * i + SLOT_SPARE;
-        all = all | (word_at(s, p) | word_at(s, p + 4));
-        i += 1;
+        all |= word_at(s, p) | word_at(s, p + 4);
     }
     all == 0
 }
@@ -95,10 +76,7 @@ fn zero_from(s: &[u8], from: usize, words: usize, to: usize) -> bool
     requires to_in_bounds { to ≤ length s.now }
     ensures { result ≡ zero_at s.now from (to - from) }
 {
-    both(
-        zero_words(s, from, words),
-        zero_between(s, from + 4 * words, to),
-    )
+    zero_words(s, from, words) & zero_between(s, from + 4 * words, to)
 }
 
 // Whether `n` words are zero: all are joined, and tested once.
@@ -106,11 +84,9 @@ fn zero_words(s: &[u8], at: usize, n: usize) -> bool
     requires { at + 4 * n ≤ length s.now }
     ensures { result ≡ zero_at s.now at (4 * n) }
 {
-    let mut all: u32 = 0;
-    let mut i: usize = 0;
-    while i < n {
-        all = all | word_at(s, at + 4 * i);
-        i += 1;
+    let mut all = 0;
+    for i in 0..n {
+        all |= word_at(s, at + 4 * i);
     }
     all == 0
 }
@@ -120,11 +96,9 @@ pub fn zero_between(s: &[u8], from: usize, to: usize) -> bool
     requires { to ≤ length s.now }
     ensures { result ≡ zero_at s.now from (to - from) }
 {
-    let mut all: u8 = 0;
-    let mut i = from;
-    while i < to {
-        all = all | s[i];
-        i += 1;
+    let mut all = 0;
+    for i in from..to {
+        all |= s[i];
     }
     all == 0
 }

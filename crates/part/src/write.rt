@@ -4,23 +4,19 @@ ghost use Rattle.std.specs.Prelude.{◌≡◌, ◌+◌, ◌*◌, ◌≤◌, ◌<
 ghost use Rattle.num.specs.Runs.{flat, splice};
 ghost use Rattle.part.specs.Layout.{claim_words, in_slots, head_words, encode};
 
-use crate::layout::{ACTIVE_AT, SLOT_BYTES, WAITING_AT};
+use crate::layout::{ACTIVE_AT, PART_BYTES, SLOT_BYTES, WAITING_AT};
 use law::Claim;
 use num::signed::to_word;
 use num::word::put_word;
 use rules::disk::Disk;
 
 // Puts a disk into its part.
-pub fn put_disk(s: &mut [u8], d: Disk)
-    requires { length s.old ≡ 768 }
+pub fn put_disk(s: &mut [u8; PART_BYTES], d: Disk)
     ensures { s.new ≡ encode d }
 {
-    let active = d.active;
-    let waiting = d.waiting;
-    let words = head_words(d);
-    put_words(s, 0, &words);
-    put_claims(s, ACTIVE_AT, active);
-    put_claims(s, WAITING_AT, waiting);
+    put_words(s, 0, &head_words(d));
+    put_claims(s, ACTIVE_AT, &d.active);
+    put_claims(s, WAITING_AT, &d.waiting);
 }
 
 // The words of the head.
@@ -48,15 +44,12 @@ fn head_words(d: Disk) -> [u32; 16]
 }
 
 // Puts claims into their slots, one behind the other.
-pub(crate) fn put_claims(s: &mut [u8], at: usize, cs: [Claim; 8])
+pub(crate) fn put_claims(s: &mut [u8], at: usize, cs: &[Claim; 8])
     requires { at + 352 ≤ length s.old }
-    ensures { s.new ≡ splice s.old at (in_slots cs) }
+    ensures { s.new ≡ splice s.old at (in_slots cs.now) }
 {
-    let mut i: usize = 0;
-    while i < 8 {
-        let c = cs[i];
-        put_claim(s, at + SLOT_BYTES * i, c);
-        i += 1;
+    for i in 0..8 {
+        put_claim(s, at + SLOT_BYTES * i, cs[i]);
     }
 }
 
@@ -65,8 +58,7 @@ pub fn put_claim(s: &mut [u8], at: usize, c: Claim)
     requires { at + 44 ≤ length s.old }
     ensures { s.new ≡ splice s.old at (flat (claim_words c)) }
 {
-    let words = claim_words(c);
-    put_words(s, at, &words);
+    put_words(s, at, &claim_words(c));
 }
 
 // The words of a slot.
@@ -93,9 +85,7 @@ fn put_words(s: &mut [u8], at: usize, words: &[u32])
     requires { at + 4 * length words.now ≤ length s.old }
     ensures { s.new ≡ splice s.old at (flat words.now) }
 {
-    let mut j: usize = 0;
-    while j < words.len() {
+    for j in 0..words.len() {
         put_word(s, at + 4 * j, words[j]);
-        j += 1;
     }
 }

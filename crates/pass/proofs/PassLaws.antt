@@ -1,13 +1,7 @@
 -- Laws of the pass on a part: what a turn that grants and one that waits make of the disk so far, and what is left at the end.
-use Prim.Native.Nat.{ℕ, ◌+◌, ◌*◌, ◌≤◌, ◌<◌}
-use mathlib.Core.Bool.{Bool, true, false}
-use mathlib.Core.List.{List, [], ◌∷◌, ◌++◌, map}
-use mathlib.Core.Path.{◌≡◌, refl, sym, ap, ◌∙◌}
-use native.Mathlib.Omega.{arith}
-use borrow.Author.Tests.{eqb-false}
-use lib.ListN.{length, take, drop, set, length-append}
-use lib.Dec.{eqb}
-use lib.Seq.{take-take}
+use Rattle.std.proofs.Common.{ℕ, ◌+◌, ◌*◌, ◌≤◌, ◌<◌, Bool, true, false, List, [], ◌∷◌, ◌++◌, map, length, take, drop, set}
+use Rattle.std.proofs.Common.{◌≡◌, refl, sym, ap, ◌∙◌, arith, length-append, take-take}
+use Rattle.std.proofs.lemmas.List.{length-map, map-append}
 use Rattle.num.specs.Runs.{splice}
 use Rattle.law.specs.declared.Attr.{Attr}
 use Rattle.law.specs.declared.Claim.{Claim}
@@ -27,26 +21,29 @@ use Rattle.rules.specs.RowLaws.{row_length, left_on, left_end, store_row, store_
 use Rattle.rules.specs.declared.disk.Disk.{Disk}
 use Rattle.rules.specs.Disks.{figures_in, core_in, disk_of, Good, DiskIs, grant_of, ToldFits}
 use Rattle.rules.proofs.RangeLaws.{limit_most, error_most, limit_range, told_most}
-use Rattle.answer.specs.declared.Answer.{Answer}
-use Rattle.answer.specs.Answers.{item_bytes, answer_bytes, Behind}
+use Rattle.part.specs.Layout.{decode}
+use Rattle.part.specs.Held.{HoldsDisk}
+use Rattle.part.specs.PartLaws.{disk_good}
+use Rattle.answer.specs.Answers.{item_bytes, Behind}
 use Rattle.answer.specs.AnswerLaws.{one_more}
 use Rattle.change.specs.Holding.{with_waiting}
-use Rattle.judge.specs.Decisions.{actives_in}
 use Rattle.pass.specs.Turns.{grant_answer, tried, front, TurnFits, TurnBy, Turned, closed_at, passed_of}
+
+-- ---- how many wait
+
+pub few_waiting : {s : List ℕ} → HoldsDisk s → (decode s).waitings ≤ 8
+few_waiting h = (disk_good h).waiting.few
 
 -- ---- what is told and counted
 
-module _ (d : Disk) (i : ℕ) (f : TurnFits d i) where
-  pub told_fits : ToldFits d (tried d i)
-  told_fits = told_most (figures_in d) (kind_of disk_table (tried d i)) (proper_kind_lem disk_table disk_proper (tried d i).method) f.0
+module _ (d : Disk) (i : ℕ) (f : TurnFits d i) (c : Claim) where
+  pub told_fits : ToldFits d c
+  told_fits = told_most (figures_in d) (kind_of disk_table c) (proper_kind_lem disk_table disk_proper c.method) f.0
 
-  pub total_most : MayGrant disk_table (core_in d) (tried d i) → total disk_table (core_in d) (tried d i) ≤ most_error
-  total_most may =
-      omega (
-        arith,
-        may.in_limit,
-        limit_range (figures_in d) (kind_of disk_table (tried d i)) (tried d i).error most_error f.1 f.2,
-      )
+  pub total_most : c ≡ tried d i → MayGrant disk_table (core_in d) c → total disk_table (core_in d) c ≤ most_error
+  total_most e may =
+      let own : c.error ≤ most_error = rw e f.2 in
+      omega (arith, may.in_limit, limit_range (figures_in d) (kind_of disk_table c) c.error most_error f.1 own)
 
 -- ---- a turn of the law
 
@@ -78,7 +75,6 @@ Limited c = c.error ≤ most_error
 -- The pass of d so far: e is the disk, i claims are looked at, of which the k that still wait stand in front, and the answers are
 -- those of the others. What is left of the pass is the pass.
 pub record Going (d e : Disk) (answers : List LawItem) (i k : ℕ) : Type 0 where
-  pub looked : i ≤ d.waitings
   pub counted : k + length answers ≡ i
   pub good : Good e
   pub waits : e.waitings ≡ d.waitings
@@ -91,7 +87,6 @@ pub record Going (d e : Disk) (answers : List LawItem) (i k : ℕ) : Type 0 wher
 pub going_start : (d : Disk) → Good d → Sound disk_table (disk_of d) → Going d d [] 0 0
 going_start d g s =
     record {
-      looked = omega arith;
       counted = refl;
       good = g;
       waits = refl;
@@ -156,7 +151,6 @@ module _ {d e : Disk} {answers : List LawItem} {i k : ℕ} (g : Going d e answer
         go : Going d after answers (i + 1) (k + 1)
         go =
             record {
-              looked = omega arith;
               counted = omega (arith, g.counted);
               good = record { active = g.good.active; waiting = store_row g.good.waiting k c in_row };
               waits = g.waits;
@@ -164,12 +158,7 @@ module _ {d e : Disk} {answers : List LawItem} {i k : ℕ} (g : Going d e answer
               values = g.values;
               limits = g.limits;
               errors = rw left_is errors_now.1;
-              goes =
-                  ap (λ (ws : List Claim). pass_over disk_table (passing (core_in e) ws answers) (left after (i + 1))) front_is
-                  ∙ ap (pass_over disk_table (passing (core_in e) (front e k ++ (c ∷ [])) answers)) left_is
-                  ∙ ap (λ (p : Passing). pass_over disk_table p (left e (i + 1)))
-                  (sym (turn_waits (passing (core_in e) (front e k) answers) c fails))
-                  ∙ turn_goes;
+              goes = rw (front_is, left_is, ← turn_waits (passing (core_in e) (front e k) answers) c fails) turn_goes;
             }
 
     -- ---- it is granted: it stands last among the active claims
@@ -205,7 +194,6 @@ module _ {d e : Disk} {answers : List LawItem} {i k : ℕ} (g : Going d e answer
         pub going_grant : Going d r (answers ++ (grant_item disk_table (core_in e) (tried e i) ∷ [])) (i + 1) k
         going_grant =
             record {
-              looked = omega arith;
               counted = omega (arith, g.counted, length-append answers (grant_item disk_table (core_in e) (tried e i) ∷ []));
               good = w.good;
               waits = waitings_are ∙ g.waits;
@@ -213,20 +201,8 @@ module _ {d e : Disk} {answers : List LawItem} {i k : ℕ} (g : Going d e answer
               values = λ x. rw (field_is (λ y. y.value) (λ y n. refl) x) (g.values x);
               limits = λ x. rw (field_is (λ y. y.limit) (λ y n. refl) x) (g.limits x);
               errors = rw waiting_is errors_now.1;
-              goes =
-                  ap (λ (s : Core). pass_over disk_table (passing s (front r k) more) (left r (i + 1))) core_is
-                  ∙ ap (λ (ws : List Claim). pass_over disk_table (passing after ws more) (left r (i + 1))) front_is
-                  ∙ ap (λ (ws : List Claim). pass_over disk_table (passing after (front e k) more) (drop (i + 1) ws)) waiting_is
-                  ∙ ap (λ (p : Passing). pass_over disk_table p (left e (i + 1)))
-                  (sym (turn_grants (passing (core_in e) (front e k) answers) (tried e i) ok))
-                  ∙ turn_goes;
+              goes = rw (core_is, front_is, waiting_is, ← turn_grants (passing (core_in e) (front e k) answers) (tried e i) ok) turn_goes;
             }
-          where
-            more : List LawItem
-            more = answers ++ (grant_item disk_table (core_in e) (tried e i) ∷ [])
-
-            after : Core
-            after = grant disk_table (core_in e) (tried e i)
 
   -- ---- all are looked at
 
@@ -241,21 +217,10 @@ module _ {d e : Disk} {answers : List LawItem} {i k : ℕ} (g : Going d e answer
 -- One more grant behind the call's own answer.
 behind_more : {a b c : List ℕ} (l : List LawItem) (x : LawItem) {n : ℕ} → length l ≡ n → n < 8 → Behind a (map grant_answer l) b →
     c ≡ splice b (16 + 16 * n) (item_bytes (grant_answer x)) → Behind a (map grant_answer (l ++ (x ∷ []))) c
-behind_more {a} {b} {c} l x {n} e h before q own o =
-    let size : length (map grant_answer l) ≡ n = length_answers l ∙ e in
-    q
-    ∙ ap (λ (r : List ℕ). splice r (16 + 16 * n) (item_bytes (grant_answer x))) (before own o)
-    ∙ ap (λ (j : ℕ). splice (answer_bytes own (map grant_answer l)) (16 + 16 * j) (item_bytes (grant_answer x))) (sym size)
-    ∙ one_more own (map grant_answer l) (grant_answer x) (omega (arith, size))
-    ∙ ap (answer_bytes own) (sym (answers_last l))
-  where
-    length_answers : (l : List LawItem) → length (map grant_answer l) ≡ length l
-    length_answers [] = refl
-    length_answers (y ∷ l) = omega (arith, length_answers l)
-
-    answers_last : (l : List LawItem) → map grant_answer (l ++ (x ∷ [])) ≡ map grant_answer l ++ (grant_answer x ∷ [])
-    answers_last [] = refl
-    answers_last (y ∷ l) = ap {B = List Answer} (λ r. grant_answer y ∷ r) (answers_last l)
+behind_more l x e h before q own o =
+    let size = length-map l grant_answer ∙ e in
+    rw (q, before own o, ← size, map-append grant_answer l (x ∷ []))
+    (one_more own (map grant_answer l) (grant_answer x) (omega (arith, size)))
 
 -- ---- the pass so far, and its grants in the buffer
 
@@ -285,24 +250,14 @@ module _ {d e : Disk} {a b : List ℕ} {i k : ℕ} (g : Run d e a b i k) (h : i 
           rw t.0
           (record { answers = g.answers; going = going_wait g.going h q t.1; behind = rw t.2 g.behind })
 
-  -- A turn after which one more waits leaves the active claims.
-  pub turn_keeps : (r : Disk) (c : List ℕ) (n : ℕ) → Turned e r b c i k n → eqb n k ≡ false → actives_in r ≡ actives_in e
-  turn_keeps r c n t q = go (granted disk_table (core_in e) (front e k) (tried e i)) t
-    where
-      go : (v : Bool) → TurnBy v e r b c i k n → actives_in r ≡ actives_in e
-      go true t = absurd (eqb-false n k q t.0)
-      go false t = ap actives_in t.1
-
 -- All are looked at: the disk that is left, and the grants.
 module _ {d e : Disk} {a b : List ℕ} {i k : ℕ} (g : Run d e a b i k) (h : d.waitings ≤ i) where
   pub run_disk : closed_at e k ≡ passed_of (disk_of d)
   unfolding passed_of
-  run_disk =
-      ap (λ (p : Passing). record { core = p.core; waiting = p.ahead; next = e.next }) (going_end g.going h)
-      ∙ ap (λ (n : ℕ). record { core = (passed d).core; waiting = (passed d).ahead; next = n }) g.going.next
+  run_disk = rw (← going_end g.going h, g.going.next)
 
   pub run_behind : Behind a (map grant_answer (pass disk_table (core_in d) (take d.waitings d.waiting)).items) b
-  run_behind = rw (sym (ap (λ (p : Passing). p.items) (going_end g.going h))) g.behind
+  run_behind = rw (← going_end g.going h) g.behind
 
 -- ---- nothing waits
 

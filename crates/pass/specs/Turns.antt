@@ -19,6 +19,10 @@ use Rattle.change.specs.Holding.{with_waiting}
 abbrev pub grant_answer : Item → Answer
 grant_answer i = Granted i.ticket i.told i.amount
 
+-- The item that shows the grant of c on the disk d.
+abbrev pub item_of : Disk → Claim → List ℕ
+item_of d c = item_bytes (grant_answer (grant_item disk_table (core_in d) c))
+
 -- The claim at place i, which is tried, and those in front, which still wait.
 abbrev pub tried : Disk → ℕ → Claim
 tried d i = get_or d.waiting i no_claim
@@ -42,7 +46,7 @@ abbrev pub TurnBy : Bool → Disk → Disk → List ℕ → List ℕ → ℕ →
 TurnBy true d e a b i k r =
     (r ≡ k) ×
     DiskIs e (grant_of (disk_of d) (tried d i)) ×
-    (b ≡ splice a (16 + 16 * (i - k)) (item_bytes (grant_answer (grant_item disk_table (core_in d) (tried d i)))))
+    (b ≡ splice a (16 + 16 * (i - k)) (item_of d (tried d i)))
 TurnBy false d e a b i k r =
     (r ≡ k + 1) ×
     (e ≡ kept_at d i k) ×

@@ -3,9 +3,9 @@
 
 #![tactic(auto)]
 
-ghost use Rattle.std.specs.Prelude.{false, map, ◌≡◌, ◌+◌, ◌*◌, ◌≤◌, ◌<◌, length};
+ghost use Rattle.std.specs.Prelude.{false, map, ◌≡◌, ◌+◌, ◌*◌, ◌≤◌, ◌<◌};
 ghost use Rattle.num.specs.Runs.{splice};
-ghost use Rattle.law.specs.Granting.{total as law_total, grant_item};
+ghost use Rattle.law.specs.Granting.{total as law_total};
 ghost use Rattle.law.specs.MayGrant.{MayGrant};
 ghost use Rattle.law.specs.Calls.{pass as law_pass};
 ghost use Rattle.law.specs.DiskType.{disk_table};
@@ -13,26 +13,26 @@ ghost use Rattle.rules.specs.Disks.{core_in, disk_of, DiskIs, grant_of, ToldFits
 ghost use Rattle.rules.specs.Totals.{totals_of};
 ghost use Rattle.part.specs.Layout.{decode};
 ghost use Rattle.part.specs.Held.{held, part_for, HoldsDisk, HoldsSound};
-ghost use Rattle.answer.specs.Answers.{OwnOnly, Behind, item_bytes};
+ghost use Rattle.answer.specs.Answers.{OwnOnly, Behind};
 ghost use Rattle.judge.specs.Decisions.{actives_in};
-ghost use Rattle.pass.specs.Turns.{grant_answer, kept_at, TurnFits, Turned, closed_at, passed_of};
+ghost use Rattle.pass.specs.Turns.{grant_answer, item_of, kept_at, TurnFits, Turned, closed_at, passed_of};
 
-use answer::put_grant;
+use answer::{ANSWER_BYTES, put_grant};
 use change::grant::grant;
 use judge::decision::{decide, totals_at};
 use law::Claim;
 use law::limits::PLACES;
 use num::signed::narrow;
-use num::truth::either;
 use num::word::put_word;
 use part::layout::{PART_BYTES, WAITING_AT, WAITINGS_AT};
-use part::read::{actives_at, clock_at, promised_at, state_at, used_at, waiting_at, waitings_at};
-use rules::figures::told;
-use rules::totals::{Totals, keep_out};
+use part::read::{clock_at, count_at, figures_at, slot_at};
+use part::status::Status;
+use rules::totals::Totals;
 use slots::{clear_from, put_slot};
 
 // Moves waiting claim i to slot k (nothing to do if k = i); returns k + 1.
-fn keep(s: &mut [u8], i: usize, k: usize) -> usize
+#[tactic(auto, using(crate::proofs::PassLaws::few_waiting))]
+fn keep(s: &mut [u8; PART_BYTES], i: usize, k: usize) -> usize
     requires holds_disk { HoldsDisk s.old }
     requires i_bound { i < (decode s.old).waitings }
     requires k_le_i { k ≤ i }
@@ -43,24 +43,23 @@ fn keep(s: &mut [u8], i: usize, k: usize) -> usize
     if k == i {
         return k + 1;
     }
-    let c = waiting_at(s, i);
+    let c = slot_at(s, Status::Waiting, i);
     put_slot(&mut s[WAITING_AT..PART_BYTES], k, c);
     k + 1
 }
 
 // Grants c with its total; the grant stands in the buffer behind the call's own answer and n other grants.
-fn give(s: &mut [u8], answer: &mut [u8], n: usize, c: Claim, total: u32)
+fn give(s: &mut [u8; PART_BYTES], answer: &mut [u8; ANSWER_BYTES], n: usize, c: Claim, total: u32)
     requires holds_disk { HoldsDisk s.old }
     requires may_grant { MayGrant disk_table (core_in (decode s.old)) c }
     requires told_fits { ToldFits (decode s.old) c }
     requires total_value { total ≡ law_total disk_table (core_in (decode s.old)) c }
-    requires answer_len { length answer.old ≡ 144 }
     requires n_bound { n < 8 }
     ensures holds_disk_2 { HoldsDisk s.new }
     ensures disk_is { DiskIs (decode s.new) (grant_of (disk_of (decode s.old)) c) }
-    ensures answer_after { answer.new ≡ splice answer.old (16 + 16 * n) (item_bytes (grant_answer (grant_item disk_table (core_in (decode s.old)) c))) }
+    ensures answer_after { answer.new ≡ splice answer.old (16 + 16 * n) (item_of (decode s.old) c) }
 {
-    let z = narrow(told(c.method, used_at(s), promised_at(s), state_at(s)));
+    let z = narrow(figures_at(s).told(c.method));
     grant(s, c, z, total);
     put_grant(answer, n, c.ticket, z, total);
 }
@@ -68,31 +67,36 @@ fn give(s: &mut [u8], answer: &mut [u8], n: usize, c: Claim, total: u32)
 // Tries waiting claim i, of which k ahead still wait. It is granted, and its grant stands behind those of the i - k others; or it
 // waits on in slot k. Returns how many wait then. With eight active, or one active whose entry is N, it waits undecided, and only
 // its method is read.
-fn turn(s: &mut [u8], answer: &mut [u8], i: usize, k: usize, t: Totals) -> usize
+#[tactic(auto, using(crate::proofs::PassLaws::few_waiting))]
+fn turn(
+    s: &mut [u8; PART_BYTES],
+    answer: &mut [u8; ANSWER_BYTES],
+    i: usize,
+    k: usize,
+    t: Totals,
+) -> usize
     requires holds_disk { HoldsDisk s.old }
     requires turn_fits { TurnFits (decode s.old) i }
     requires i_bound { i < (decode s.old).waitings }
     requires k_le_i { k ≤ i }
-    requires answer_len { length answer.old ≡ 144 }
     requires t_value { t ≡ totals_of (actives_in (decode s.old)) }
     ensures holds_disk_2 { HoldsDisk s.new }
     ensures turned { Turned (decode s.old) (decode s.new) answer.old answer.new i k result }
 {
-    let m = waiting_at(s, i).method;
-    if either(PLACES <= actives_at(s), keep_out(t, m)) {
+    let m = slot_at(s, Status::Waiting, i).method;
+    if (PLACES <= count_at(s, Status::Active)) | t.keep_out(m) {
         return keep(s, i, k);
     }
-    let c = waiting_at(s, i);
-    let v = decide(s, k, c, clock_at(s), t);
-    if v.ok {
-        give(s, answer, i - k, c, v.total as u32);
+    let c = slot_at(s, Status::Waiting, i);
+    if let Some(total) = decide(s, k, c, clock_at(s), t) {
+        give(s, answer, i - k, c, total as u32);
         return k;
     }
     keep(s, i, k)
 }
 
 // Clears the slots behind the first k of the n waiting claims, which wait on.
-fn close(s: &mut [u8], k: usize, n: usize)
+fn close(s: &mut [u8; PART_BYTES], k: usize, n: usize)
     requires holds_disk { HoldsDisk s.old }
     requires k_le_n { k ≤ n }
     requires n_value { n ≡ (decode s.old).waitings }
@@ -103,7 +107,7 @@ fn close(s: &mut [u8], k: usize, n: usize)
 }
 
 // The totals of the active claims after a turn: taken anew where a claim was granted, else as before.
-fn after_turn(s: &[u8], granted: bool, t: Totals) -> Totals
+fn after_turn(s: &[u8; PART_BYTES], granted: bool, t: Totals) -> Totals
     requires holds_disk { HoldsDisk s.now }
     requires t_value { granted ≡ false → t ≡ totals_of (actives_in (decode s.now)) }
     ensures { result ≡ totals_of (actives_in (decode s.now)) }
@@ -115,25 +119,22 @@ fn after_turn(s: &[u8], granted: bool, t: Totals) -> Totals
 }
 
 // The pass, with its grants behind the one answer in the buffer. Of the i claims tried, k still wait and stand in front.
-pub fn pass(s: &mut [u8], answer: &mut [u8])
+pub fn pass(s: &mut [u8; PART_BYTES], answer: &mut [u8; ANSWER_BYTES])
     requires holds_sound { HoldsSound s.old }
-    requires answer_len { length answer.old ≡ 144 }
     requires own_only { OwnOnly answer.old }
     ensures s_after { s.new ≡ part_for (passed_of (held s.old)) }
     ensures behind { Behind answer.old (map grant_answer (law_pass disk_table (held s.old).core (held s.old).waiting).items) answer.new }
 {
-    let n = waitings_at(s) as usize;
+    let n = count_at(s, Status::Waiting) as usize;
     if n == 0 {
         return;
     }
     let mut t = totals_at(s);
-    let mut i: usize = 0;
-    let mut k: usize = 0;
-    while i < n {
+    let mut k = 0;
+    for i in 0..n {
         let waits = turn(s, answer, i, k, t);
         t = after_turn(s, waits == k, t);
         k = waits;
-        i += 1;
     }
     close(s, k, n);
 }

@@ -1,21 +1,18 @@
 -- Demand 3 over bytes: a reading can rely on what it was told, and no reader pays for another's limit.
-use Rattle.std.specs.Prelude.{ℕ, ◌≤◌, ◌<◌, Bool, false, List, [], ◌∷◌, map, ◌≡◌, refl, eqb, pos, length}
+use Rattle.std.specs.Prelude.{ℕ, ◌<◌, Bool, false, List, [], ◌∷◌, map, ◌≡◌, refl, eqb, length}
 use Rattle.std.proofs.Math.Bool.{true}
 use Rattle.std.proofs.Common.{true≢false, sym, ◌∙◌, subst, eq-eqb}
 use Rattle.std.proofs.Math.Path.{ap}
 use Rattle.std.proofs.lemmas.Bool.{lt-leb}
-use Rattle.num.specs.Word.{word_at}
-use Rattle.num.specs.Signed.{signed_at}
 use Rattle.num.specs.Opened.{open_at}
 use Rattle.law.specs.declared.Claim.{Claim}
 use Rattle.law.specs.Base.{All, Pairs}
 use Rattle.law.specs.Lists.{all_say, all_left}
-use Rattle.law.specs.Types.{reads, Disk as LawDisk, Item, accepted}
-use Rattle.law.specs.Entries.{kind_at}
+use Rattle.law.specs.Types.{Disk as LawDisk, Item, accepted}
 use Rattle.law.specs.Readings.{present, carried}
 use Rattle.law.specs.Calls.{with_grant}
 use Rattle.law.specs.Sound.{claims_on}
-use Rattle.law.specs.History.{claims, answered, Once, EndsGrant, EndsWait, Lasting, StandsActive, StandsWaiting}
+use Rattle.law.specs.History.{answered, Once, EndsGrant, EndsWait, Lasting, StandsActive, StandsWaiting}
 use Rattle.law.specs.Conditions.{Reading, Free, reading_item}
 use Rattle.law.proofs.GrantedAtOnce.{granted_at_once_lem as law_granted_at_once}
 use Rattle.law.proofs.ReaderBound.{Bounded, reader_bound, granted_once as law_granted_once}
@@ -24,11 +21,10 @@ use Rattle.law.specs.DiskType.{disk_table}
 use Rattle.rules.specs.Answers.{answer_of}
 use Rattle.answer.specs.declared.Answer.TheVariants as A
 use Rattle.answer.specs.Answers.{code_of, answer_bytes, answer_size}
-use Rattle.desk.specs.Record.{byte_at, kind_byte, disk_number, asked_in, call_of}
+use Rattle.desk.specs.Record.{kind_byte, disk_number, asked_in, call_of}
 use Rattle.desk.specs.Board.{disks, board_bytes, part_of, with_part}
 use Rattle.part.specs.Held.{held, part_for, sound_part}
 use Rattle.desk.specs.Step.{own_of, grants_of, accepts, effect, serve_of, on_board, effect_of, Stepped, written, step_of}
-use Rattle.promises.specs.Sentences.{WellFormed}
 use Rattle.promises.proofs.RefusalLaws.{says_formed}
 use Rattle.promises.specs.Histories.{BoardCall, BytesIn, step_by, said_by, begun, lived}
 use Rattle.promises.proofs.LifeLaws.{empty_shut, whole_begun, whole_lived, by_life, shut_silent, open_sound}

@@ -1,6 +1,6 @@
 -- Laws: each disk of a board that calls from the empty one leave is shut, or has a life as the law says: its part and all that
 -- was said on it are those of a history of the law.
-use Rattle.std.specs.Prelude.{ℕ, ◌≤◌, ◌<◌, ◌^◌, true, false, ◌≢◌, ◌≡◌, refl, length}
+use Rattle.std.specs.Prelude.{ℕ, ◌≤◌, ◌<◌, ◌^◌, true, false, ◌≡◌, refl, length}
 use Rattle.std.proofs.Common.{true≢false, ◌∙◌, arith}
 use mathlib.Core.List.{List, [], ◌∷◌, ◌++◌, append-nil}
 use Rattle.std.proofs.Math.Path.{sym, ap}

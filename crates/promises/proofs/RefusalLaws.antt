@@ -1,6 +1,6 @@
 -- Laws of refusals: each test of a call decides its sentence, the code is the number of the first
 -- test that refuses, and a refusal changes no byte.
-use Rattle.std.specs.Prelude.{ℕ, zero, suc, ◌+◌, ◌≤◌, ◌<◌, Bool, cond, not, ◌&&◌, List, [], ◌∷◌, ◌++◌, ◌↔◌, ◌⊎◌, ◌≡◌, leb, eqb, length, take, drop, get_or, replicate}
+use Rattle.std.specs.Prelude.{ℕ, suc, ◌+◌, ◌≤◌, ◌<◌, Bool, cond, not, ◌&&◌, List, [], ◌∷◌, ◌++◌, ◌↔◌, ◌⊎◌, ◌≡◌, leb, eqb, length, take, drop, get_or, replicate}
 use Rattle.std.proofs.Math.Bool.{true, false}
 use Rattle.std.proofs.lemmas.Bool.{false≢true, eqb-false}
 use Rattle.std.proofs.Common.{inl, inr, ⊎_elim, sym, ap, ◌∙◌, arith, leb-true, eqb-true, eq-eqb, length-take, get_or-take, get_or-drop}

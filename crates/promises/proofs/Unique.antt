@@ -1,5 +1,5 @@
 -- Any two results that a promise admits are equal.
-use Rattle.std.specs.Prelude.{ℕ, Bool, true, false, List, ◌≡◌, refl}
+use Rattle.std.specs.Prelude.{ℕ, Bool, true, false, Option, Result, List, ◌≡◌, refl}
 use Rattle.std.proofs.Common.{sym, ap, ◌∙◌}
 use Rattle.num.specs.Word.{Bytes}
 use Rattle.law.specs.declared.Claim.{Claim}
@@ -10,13 +10,13 @@ use Rattle.rules.specs.Disks.{DiskIs}
 use Rattle.part.specs.Layout.{slots, in_slots, decode}
 use Rattle.part.specs.Held.{HoldsDisk}
 use Rattle.slots.specs.Slots.{Slots}
-use Rattle.sound.specs.declared.Seen.{Seen}
 use Rattle.sound.specs.Seen.{seen_of}
 use Rattle.judge.specs.Decisions.{DecidedIs}
 use Rattle.answer.specs.declared.Answer.{Answer}
+use Rattle.answer.specs.declared.Refusal.{Refusal}
+use Rattle.rules.specs.declared.totals.Totals.{Totals}
 use Rattle.answer.specs.Answers.{OwnOnly, Behind}
 use Rattle.change.specs.HoldingLaws.{disk_holds, holds_part}
-use Rattle.desk.specs.declared.board.Count.{Count}
 use Rattle.desk.specs.Counts.{count_of}
 use Rattle.desk.specs.Step.{Stepped, stepped, step_of}
 
@@ -35,7 +35,7 @@ step_unique b r a p q = (
 )
 
 -- The number of open disks.
-pub count_unique : (b : List ℕ) {n m : Count} → n ≡ count_of b → m ≡ count_of b → n ≡ m
+pub count_unique : (b : List ℕ) {n m : Result ℕ Refusal} → n ≡ count_of b → m ≡ count_of b → n ≡ m
 count_unique b p q = unique p q
 
 -- ---- the decision
@@ -52,7 +52,7 @@ decided_unique {ok} {yes} {n} {m} x y = (unique x.says y.says, total ok refl)
 -- ---- the soundness test
 
 -- Whether a disk is sound, and the totals handed on.
-pub seen_unique : (d : LawDisk) {x y : Seen} → x ≡ seen_of d → y ≡ seen_of d → x ≡ y
+pub seen_unique : (d : LawDisk) {x y : Option Totals} → x ≡ seen_of d → y ≡ seen_of d → x ≡ y
 seen_unique d p q = unique p q
 
 -- ---- bytes that are stated by what they hold

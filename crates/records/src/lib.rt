@@ -1,4 +1,4 @@
-// The reader of a run of records: the lent bytes and a place in them. The functions over `Reader` are few and thin; the work is in
+// The reader of a run of records: the lent bytes and a place in them. The methods of `Reader` are few and thin; the work is in
 // `piece_at`, on a plain slice and a number. A caller that has a slice and a place calls `piece_in`.
 
 #![tactic(auto)]
@@ -15,7 +15,7 @@ pub struct Reader<'a> {
 
 // What begins at a place: a whole record or the short last piece, each with the place where it ends; or nothing, if the place is the
 // end of the run or past it.
-#[derive(Clone, Copy)]
+#[derive(Clone, Copy, PartialEq, Eq, Debug)]
 pub enum Piece {
     Record(usize),
     Short(usize),
@@ -27,32 +27,34 @@ const RECORD_BYTES: usize = 24;
 // Where the kind stands in a record.
 const KIND_AT: usize = 2;
 
-// A reader at the start of a run.
-pub fn new<'a>(run: &'a [u8]) -> Reader<'a>
-    ensures { result ≡ reader_at run.entry 0 }
-{
-    Reader { run, at: 0 }
-}
+impl<'a> Reader<'a> {
+    // A reader at the start of a run.
+    pub fn new(run: &'a [u8]) -> Reader<'a>
+        ensures { result ≡ reader_at run.entry 0 }
+    {
+        Reader { run, at: 0 }
+    }
 
-// The piece at the reader's place.
-pub fn next<'a>(r: Reader<'a>) -> Piece
-    ensures { result ≡ piece_at r.entry.run.now r.entry.at }
-{
-    piece_at(r.run, r.at)
-}
+    // The piece at the reader's place.
+    pub fn next(self) -> Piece
+        ensures { result ≡ piece_at self.entry.run.now self.entry.at }
+    {
+        piece_at(self.run, self.at)
+    }
 
-// The reader at another place of its run.
-pub fn moved<'a>(r: Reader<'a>, at: usize) -> Reader<'a>
-    ensures { result ≡ reader_at r.entry.run at }
-{
-    Reader { run: r.run, at }
+    // The reader at another place of its run.
+    pub fn moved(self, at: usize) -> Reader<'a>
+        ensures { result ≡ reader_at self.entry.run at }
+    {
+        Reader { run: self.run, at }
+    }
 }
 
 // The piece at a place of a run.
 pub fn piece_in(run: &[u8], at: usize) -> Piece
     ensures { result ≡ piece_at run.now at }
 {
-    next(moved(new(run), at))
+    Reader::new(run).moved(at).next()
 }
 
 // The length of a record of that kind.

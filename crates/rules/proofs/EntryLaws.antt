@@ -1,17 +1,14 @@
--- Laws of methods and their entries: the index of a method, what stands in the table, and a method that there is not.
-use Prim.Native.Nat.{ℕ, zero, suc, ◌≤◌, ◌<◌}
+-- Laws of methods and their entries: what holds of each kind, and the entries of a method that there is not.
+use Prim.Native.Nat.{ℕ, zero, suc, ◌≤◌}
 use mathlib.Core.Bool.{Bool, true, false, ◌&&◌}
 use mathlib.Core.Path.{◌≡◌, refl, sym, ap, ◌∙◌}
-use borrow.Author.Tests.{lt-ltb, le-ltb}
 use Rattle.num.specs.Bits.{has_bit}
 use Rattle.law.specs.declared.Entry.TheVariants.{A}
 use Rattle.law.specs.Types.{a0, a1, a2, Kind, sets, adds, reads}
 use Rattle.law.specs.Entries.{kind_at, entry_by}
 use Rattle.law.specs.Granting.{adds_to}
 use Rattle.law.specs.DiskType.{disk_table}
-use Rattle.law.specs.DiskType.{entry_at}
-use Rattle.law.proofs.TableLaws.{disk_entry}
-use Rattle.rules.specs.Methods.{is_add, index_of}
+use Rattle.rules.specs.Methods.{is_add}
 use Rattle.rules.proofs.MethodLaws.{method_past}
 
 -- ---- methods
@@ -43,22 +40,6 @@ past (adds a0) = (refl, refl)
 past (adds a1) = (refl, refl)
 past (adds a2) = (refl, refl)
 past (reads m) = (refl, refl)
-
--- The index of a method that there is.
-pub index_is : (m : ℕ) → m < 7 → index_of m ≡ m
-unfolding index_of
-index_is m h = rw (lt-ltb m 7 h)
-
-pub index_past : (m : ℕ) → 7 ≤ m → index_of m ≡ 0
-unfolding index_of
-index_past m h = rw (le-ltb m 7 h)
-
--- What stands in the table at the indices of two methods.
-pub found_at : (m n r s : ℕ) → r ≡ index_of m → s ≡ index_of n → entry_at r s ≡ entry_at (index_of m) (index_of n)
-found_at m n r s h g = rw (h, g)
-
-pub entry_of : (m n : ℕ) → m < 7 → n < 7 → entry_at (index_of m) (index_of n) ≡ entry_by (kind_at disk_table m) (kind_at disk_table n)
-entry_of m n h g = rw (index_is m h, index_is n g) (disk_entry m n h g)
 
 pub entry_row_past : (m n : ℕ) → 7 ≤ m → A ≡ entry_by (kind_at disk_table m) (kind_at disk_table n)
 entry_row_past m n h = (past (kind_at disk_table n)).0 ∙ ap (λ k. entry_by k (kind_at disk_table n)) (sym (method_past m h))

@@ -1,22 +1,22 @@
--- Laws of the methods: the masks by method, and what a claim reads, is told, carries and writes by the masks of its kind.
+-- Laws of the methods: their kinds and masks by number, and what a claim reads, is told, carries and writes by the masks of its kind.
 use Prim.Native.Nat.{ℕ, zero, suc, ◌≤◌}
 use mathlib.Core.Bool.{cond}
-use mathlib.Core.Path.{◌≡◌, refl}
+use mathlib.Core.Path.{◌≡◌, refl, sym, ap, ◌∙◌}
 use native.Mathlib.Omega.{arith}
-use borrow.Author.Tests.{ne_eqb, le-leb}
+use borrow.Author.Tests.{le-ltb}
 use lib.Bits.{bit_or}
-use lib.Dec.{leb, eqb}
-use lib.IntN.{ℤ}
 use lib.ListN.{get_or-eq_default}
+use Rattle.std.specs.Prelude.{Result, Ok, Err}
 use Rattle.num.specs.Bits.{has_bit}
-use Rattle.num.specs.Metric.{size, dist}
 use Rattle.law.specs.Types.{a0, a1, a2, Kind, sets, adds, reads, Figures}
 use Rattle.law.specs.Readings.{present, carried}
 use Rattle.law.specs.Entries.{kind_at}
-use Rattle.law.specs.Granting.{gap_by, told_by, carried_by}
+use Rattle.law.specs.Granting.{told_by, carried_by}
 use Rattle.law.specs.DiskType.{disk_table}
-use Rattle.rules.specs.Methods.{sets_by, adds_by, reads_by, writes_by, set_mask, add_mask, read_mask, write_mask, is_reading, is_add, sets_state, written_by}
-use Rattle.rules.specs.Masks.{masks_by, masks_of}
+use Rattle.rules.specs.declared.method.Method.{Method}
+use Rattle.rules.specs.declared.method.Method.TheVariants as M
+use Rattle.rules.specs.declared.method.Unknown.{Unknown}
+use Rattle.rules.specs.Methods.{method_of, sets_by, adds_by, reads_by, writes_by, set_mask, add_mask, read_mask, write_mask, written_by}
 
 -- ---- by method
 
@@ -37,16 +37,27 @@ method_cases P p0 p1 p2 p3 p4 p5 p6 more (suc (suc (suc (suc (suc (suc zero)))))
 method_cases P p0 p1 p2 p3 p4 p5 p6 more (suc (suc (suc (suc (suc (suc (suc m))))))) =
     more (suc (suc (suc (suc (suc (suc (suc m))))))) (omega arith)
 
--- Any other number than the seven is an unknown method, and does nothing.
-pub unknown : (m : ℕ) → (m ≡ 0 → ⊥) → (m ≡ 1 → ⊥) → (m ≡ 2 → ⊥) → (m ≡ 3 → ⊥) → (m ≡ 4 → ⊥) → (m ≡ 5 → ⊥) → (m ≡ 6 → ⊥) →
-    masks_by 0 0 0 ≡ masks_of m
-unfolding masks_of set_mask add_mask read_mask
-unknown =
-    method_cases
-    (λ m. (m ≡ 0 → ⊥) → (m ≡ 1 → ⊥) → (m ≡ 2 → ⊥) → (m ≡ 3 → ⊥) → (m ≡ 4 → ⊥) → (m ≡ 5 → ⊥) → (m ≡ 6 → ⊥) → masks_by 0 0 0 ≡ masks_of m)
-    (λ p q r s t u v. absurd (p refl)) (λ p q r s t u v. absurd (q refl)) (λ p q r s t u v. absurd (r refl)) (λ p q r s t u v. absurd (s refl))
-    (λ p q r s t u v. absurd (t refl)) (λ p q r s t u v. absurd (u refl)) (λ p q r s t u v. absurd (v refl))
-    (λ m h p q r s t u v. rw (method_past m h))
+-- The kind of each method, and of what is no method.
+abbrev pub kind_found : Result Method Unknown → Kind
+kind_found (Ok M.ReportUsed) = sets a0
+kind_found (Ok M.AddPromised) = adds a1
+kind_found (Ok M.SetPromised) = sets a1
+kind_found (Ok M.SetState) = sets a2
+kind_found (Ok M.ReadUsed) = reads 1
+kind_found (Ok M.ReadLoad) = reads 3
+kind_found (Ok M.ReadState) = reads 4
+kind_found (Err u) = reads 0
+
+-- The kind of a number is that of the method that it is.
+kind_is : (m : ℕ) → kind_at disk_table m ≡ kind_found (method_of m)
+unfolding disk_table method_of
+kind_is =
+    method_cases (λ m. kind_at disk_table m ≡ kind_found (method_of m)) refl refl refl refl refl refl refl
+    (λ m h. rw (method_past m h, le-ltb m 7 h))
+
+-- So it is by what the number was found to be.
+pub kind_by : (m : ℕ) {r : Result Method Unknown} → r ≡ method_of m → kind_at disk_table m ≡ kind_found r
+kind_by m e = kind_is m ∙ ap kind_found (sym e)
 
 -- What a method writes is what it sets and what it adds to.
 write_by : (k : Kind) → bit_or (sets_by k) (adds_by k) ≡ writes_by k
@@ -61,27 +72,6 @@ write_by (reads m) = refl
 pub write_is : (m : ℕ) → bit_or (set_mask m) (add_mask m) ≡ write_mask m
 unfolding set_mask add_mask write_mask
 write_is m = write_by (kind_at disk_table m)
-
--- The methods from 4 on are the readings.
-pub reading_from : (m : ℕ) → leb 4 m ≡ is_reading (kind_at disk_table m)
-unfolding disk_table
-reading_from =
-    method_cases (λ m. leb 4 m ≡ is_reading (kind_at disk_table m)) refl refl refl refl refl refl refl
-    (λ m h. rw (method_past m h) (le-leb 4 m (omega arith)))
-
--- Method 1 alone adds.
-pub add_row : (m : ℕ) → eqb m 1 ≡ is_add (kind_at disk_table m)
-unfolding disk_table
-add_row =
-    method_cases (λ m. eqb m 1 ≡ is_add (kind_at disk_table m)) refl refl refl refl refl refl refl
-    (λ m h. rw (method_past m h) (ne_eqb m 1 (λ e. omega arith)))
-
--- Method 3 alone sets the state.
-pub state_row : (m : ℕ) → eqb m 3 ≡ sets_state (kind_at disk_table m)
-unfolding disk_table
-state_row =
-    method_cases (λ m. eqb m 3 ≡ sets_state (kind_at disk_table m)) refl refl refl refl refl refl refl
-    (λ m h. rw (method_past m h) (ne_eqb m 3 (λ e. omega arith)))
 
 -- ---- by kind, and so by the masks of a method
 
@@ -123,9 +113,3 @@ module _ (f : Figures) where
       cond (has_bit (write_mask m) 0) f.f0 (cond (has_bit (write_mask m) 1) f.f1 f.f2) ≡ written_by f (kind_at disk_table m)
   unfolding write_mask
   written_of m = written_by_lem (kind_at disk_table m)
-
-  -- The gap by the two tests of a kind.
-  pub gap_by_lem : (k : Kind) (z : ℤ) → cond (is_reading k) 0 (cond (is_add k) (size z) (dist z (written_by f k).value)) ≡ gap_by f k z
-  gap_by_lem (sets a) z = refl
-  gap_by_lem (adds a) z = refl
-  gap_by_lem (reads m) z = refl

@@ -13,13 +13,13 @@ use Rattle.law.specs.Base.{all_true}
 use Rattle.law.specs.Types.{most_value, Attribute, a0, a1, a2, bit_of, Kind, sets, adds, reads, Figures, attr, Core}
 use Rattle.law.specs.Readings.{carried}
 use Rattle.law.specs.Entries.{kind_at}
-use Rattle.law.specs.Granting.{start_by, limit_by, carried_by, fresh, addable, bearable, ranged, adds_on, preconditions}
+use Rattle.law.specs.Granting.{carried_by, fresh, addable, bearable, ranged, adds_on, preconditions}
 use Rattle.law.specs.DiskType.{disk_table, disk_valid}
 use Rattle.law.specs.Lists.{never_true}
 use Rattle.rules.specs.Methods.{reads_by, is_reading, is_add, written_by, alone, fresh_at, ranged_by, pre_of}
 use Rattle.rules.proofs.MethodLaws.{method_cases, method_past}
 
--- ---- a fact of the readings, of the adds, of the writes, of the sets
+-- ---- a fact of the readings, of the adds, of the sets
 
 module _ (P : Kind → Type 0) where
   pub by_reads : ((m : ℕ) → P (reads m)) → (k : Kind) → is_reading k ≡ true → P k
@@ -32,34 +32,10 @@ module _ (P : Kind → Type 0) where
   by_adds f (adds a) e = f a
   by_adds f (reads m) e = never_true _ e
 
-  pub by_writes : ((a : Attribute) → P (sets a)) → ((a : Attribute) → P (adds a)) → (k : Kind) → is_reading k ≡ false →
-      P k
-  by_writes f g (sets a) e = f a
-  by_writes f g (adds a) e = g a
-  by_writes f g (reads m) e = never_true _ (sym e)
-
   pub by_sets : ((a : Attribute) → P (sets a)) → (k : Kind) → is_reading k ≡ false → is_add k ≡ false → P k
   by_sets f (sets a) e h = f a
   by_sets f (adds a) e h = never_true _ (sym h)
   by_sets f (reads m) e h = never_true _ (sym e)
-
--- ---- starting amount and limit
-
-module _ (f : Figures) (k : Kind) (own : ℕ) where
-  pub start_reads : is_reading k ≡ true → start_by f k own ≡ carried_by f k
-  start_reads = by_reads (λ k. start_by f k own ≡ carried_by f k) (λ m. refl) k
-
-  pub start_adds : is_add k ≡ true → start_by f k own ≡ (written_by f k).amount + own
-  start_adds = by_adds (λ k. start_by f k own ≡ (written_by f k).amount + own) (λ a. refl) k
-
-  pub start_sets : is_reading k ≡ false → is_add k ≡ false → start_by f k own ≡ own
-  start_sets = by_sets (λ k. start_by f k own ≡ own) (λ a. refl) k
-
-  pub limit_reads : is_reading k ≡ true → limit_by f k own ≡ own
-  limit_reads = by_reads (λ k. limit_by f k own ≡ own) (λ m. refl) k
-
-  pub limit_writes : is_reading k ≡ false → limit_by f k own ≡ (written_by f k).limit
-  limit_writes = by_writes (λ k. limit_by f k own ≡ (written_by f k).limit) (λ a. refl) (λ a. refl) k
 
 -- ---- precondition (a)
 

@@ -1,5 +1,5 @@
 -- Answers by the law's outcomes, the request that a claim is, and the disks that calls leave.
-use Rattle.std.specs.Prelude.{ℕ, ◌+◌, ◌≤◌, Bool, cond, List, [], ◌∷◌, ◌++◌, ◌≡◌, leb, ltb, eqb, ℤ, pos, take, get_or}
+use Rattle.std.specs.Prelude.{ℕ, ◌+◌, ◌≤◌, Bool, cond, Result, Ok, Err, List, [], ◌∷◌, ◌++◌, ◌≡◌, leb, ltb, eqb, ℤ, pos, take, get_or}
 use Rattle.num.specs.Metric.{size}
 use Rattle.rules.specs.Rows.{no_claim, remove_at}
 use Rattle.law.specs.declared.Claim.{Claim}
@@ -13,8 +13,7 @@ use Rattle.answer.specs.declared.Answer.{Answer}
 use Rattle.answer.specs.declared.Answer.TheVariants as A
 use Rattle.answer.specs.Answers.{refusal_of}
 use Rattle.rules.specs.declared.disk.Disk.{Disk}
-use Rattle.rules.specs.declared.fields.Tested.{Tested}
-use Rattle.rules.specs.declared.fields.Tested.TheVariants as T
+use Rattle.answer.specs.declared.Refusal.{Refusal}
 use Rattle.rules.specs.Pairs.{core_of}
 use Rattle.rules.specs.Disks.{figures_in, Good, ToldFits}
 
@@ -60,9 +59,9 @@ value_by (adds a) z = leb (size z) most_value
 value_by (reads m) z = leb (size z) most_value
 
 -- The refusal of the first rule that holds, or that none does.
-abbrev pub first_refusal : List Rule → Tested
-first_refusal [] = T.Passed
-first_refusal (r ∷ rs) = cond r.when (T.Refused (refusal_of r.number)) (first_refusal rs)
+abbrev pub first_refusal : List Rule → Result (Unit {0}) Refusal
+first_refusal [] = Ok tt
+first_refusal (r ∷ rs) = cond r.when (Err (refusal_of r.number)) (first_refusal rs)
 
 -- The refusals of a claim before its decision, 15 to 19; its ticket is the next one.
 unfoldable pub first_rules : Figures → ℕ → ℕ → Claim → List Rule

@@ -10,9 +10,14 @@ use Rattle.rules.specs.Rows.{Row, no_claim}
 use Rattle.rules.specs.Methods.{figures_of}
 use Rattle.rules.specs.Pairs.{core_of}
 use Rattle.rules.specs.declared.disk.Disk.{Disk}
+use Rattle.rules.specs.declared.figures.Figures.{Figures as CodeFigures}
 
 abbrev pub figures_in : Disk → Figures
 figures_in d = figures_of d.used d.promised d.state
+
+-- The same as the code has them.
+abbrev pub figures_at : Disk → CodeFigures
+figures_at d = record { used = d.used; promised = d.promised; state = d.state }
 
 -- The disk as a decision sees it.
 abbrev pub core_in : Disk → Core

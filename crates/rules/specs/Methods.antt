@@ -1,5 +1,5 @@
 -- What the code says of a method and of one claim, over the law's kinds.
-use Rattle.std.specs.Prelude.{ℕ, ◌+◌, Bool, true, false, cond, List, [], ◌∷◌, leb, ltb, ℤ}
+use Rattle.std.specs.Prelude.{ℕ, ◌+◌, Bool, true, false, cond, Result, Ok, Err, List, [], ◌∷◌, leb, ltb, ℤ, get_or}
 use Rattle.num.specs.Metric.{size}
 use Rattle.law.specs.declared.Attr.{Attr}
 use Rattle.law.specs.declared.Claim.{Claim}
@@ -8,10 +8,26 @@ use Rattle.law.specs.Types.{most_value, most_error, most_state, most_flag, Attri
 use Rattle.law.specs.Entries.{kind_at}
 use Rattle.law.specs.Granting.{fresh, addable, bearable}
 use Rattle.law.specs.DiskType.{disk_table}
+use Rattle.rules.specs.declared.figures.Figures.{Figures as CodeFigures}
+use Rattle.rules.specs.declared.method.Method.{Method}
+use Rattle.rules.specs.declared.method.Method.TheVariants as M
+use Rattle.rules.specs.declared.method.Unknown.{Unknown}
 
 -- The figures of a disk.
 abbrev pub figures_of : Attr → Attr → Attr → Figures
 figures_of used promised state = record { f0 = used; f1 = promised; f2 = state }
+
+-- The figures of the code, as the law has them.
+abbrev pub in_law : CodeFigures → Figures
+in_law f = figures_of f.used f.promised f.state
+
+-- The methods by their numbers; from 7 on there is none.
+abbrev pub methods : List Method
+methods =
+    M.ReportUsed ∷ M.AddPromised ∷ M.SetPromised ∷ M.SetState ∷ M.ReadUsed ∷ M.ReadLoad ∷ M.ReadState ∷ []
+
+unfoldable pub method_of : ℕ → Result Method Unknown
+method_of m = cond (ltb m 7) (Ok (get_or methods m M.ReportUsed)) (Err (record {}))
 
 -- The masks of what a method sets, adds to, reads and writes.
 abbrev pub mask_of : Attribute → ℕ
@@ -50,10 +66,6 @@ read_mask m = reads_by (kind_at disk_table m)
 
 unfoldable pub write_mask : ℕ → ℕ
 write_mask m = writes_by (kind_at disk_table m)
-
--- The index of a method in the table; 0 for an unknown method.
-unfoldable pub index_of : ℕ → ℕ
-index_of m = cond (ltb m 7) m 0
 
 -- How large the fields of a claim may be, by the limits of used and promised and the clock: for each field a row of seven, by method.
 -- Its value; its error; its second of measuring; its flag; what it was told.

@@ -1,5 +1,5 @@
 -- A list of at most eight claims, as an array of eight with a count: what the code keeps, and the list that it stands for.
-use Rattle.std.specs.Prelude.{ℕ, zero, suc, ◌≤◌, Bool, cond, List, [], ◌∷◌, ◌≡◌, pos, length, take, get_or}
+use Rattle.std.specs.Prelude.{ℕ, zero, suc, ◌≤◌, Bool, cond, Option, Some, None, List, [], ◌∷◌, ◌≡◌, ltb, pos, length, take, get_or}
 use Rattle.law.specs.declared.Claim.{Claim}
 use Rattle.law.specs.Calls.{has_ticket}
 
@@ -37,6 +37,10 @@ first_of p (x ∷ xs) = cond (p x) 0 (suc (first_of p xs))
 -- The place of the claim of ticket n.
 abbrev pub place_of : ℕ → List Claim → ℕ
 place_of n ws = first_of (has_ticket n) ws
+
+-- That place, if a claim has the ticket.
+abbrev pub found_in : ℕ → List Claim → Option ℕ
+found_in n ws = cond (ltb (place_of n ws) (length ws)) (Some (place_of n ws)) None
 
 -- The list without what stands at a place.
 abbrev pub remove_at : {A : Type 0} → ℕ → List A → List A

@@ -5,14 +5,14 @@ ghost use Rattle.law.specs.Base.{all_true};
 ghost use Rattle.law.specs.Entries.{kind_at, kind_of};
 ghost use Rattle.law.specs.Calls.{field_tests, own_fits, limits_fit};
 ghost use Rattle.law.specs.DiskType.{disk_table};
-ghost use Rattle.rules.specs.Methods.{figures_of};
+ghost use Rattle.rules.specs.Methods.{in_law};
 ghost use Rattle.rules.specs.Answers.{value_by, first_refusal, first_rules};
 
-use crate::figures::written;
+use crate::figures::Figures;
 use crate::method::{is_known, is_reading, sets_state};
 use answer::Refusal;
+use law::Claim;
 use law::limits::{LAST_TICKET, MOST_ERROR, MOST_STATE, MOST_VALUE};
-use law::{Attr, Claim};
 use num::signed::{size, within};
 
 // A state is a code 0 to 255; every other value lies within 1,000,000,000, either way.
@@ -51,51 +51,40 @@ pub(crate) fn fields_fit(c: Claim, now: u32) -> bool
 }
 
 // 18: a write's own error is within its attribute's limit.
-pub(crate) fn own_fits(m: u32, error: u32, used: Attr, promised: Attr, state: Attr) -> bool
-    ensures { result ≡ own_fits (figures_of used promised state) (kind_at disk_table m) error }
+pub(crate) fn own_fits(f: &Figures, m: u32, error: u32) -> bool
+    ensures { result ≡ own_fits (in_law f.now) (kind_at disk_table m) error }
 {
     if is_reading(m) {
         return true;
     }
-    let a = written(m, used, promised, state);
-    error <= a.limit
-}
-
-// What the tests before the decision find.
-#[derive(Clone, Copy)]
-pub enum Tested {
-    Passed,
-    Refused(Refusal),
+    error <= f.written(m).limit
 }
 
 // The first of the refusals 15 to 19 that applies to a claim, or that none does.
-pub fn checked(c: Claim, now: u32, clock: u32, used: Attr, promised: Attr, state: Attr) -> Tested
-    ensures { result ≡ first_refusal (first_rules (figures_of used promised state) clock now c) }
+pub fn checked(f: &Figures, c: Claim, now: u32, clock: u32) -> Result<(), Refusal>
+    ensures { result ≡ first_refusal (first_rules (in_law f.now) clock now c) }
 {
     if now < clock {
-        return Tested::Refused(Refusal::Clock);
+        return Err(Refusal::Clock);
     }
     if !is_known(c.method) {
-        return Tested::Refused(Refusal::Method);
+        return Err(Refusal::Method);
     }
     if !fields_fit(c, now) {
-        return Tested::Refused(Refusal::Field);
+        return Err(Refusal::Field);
     }
-    if !own_fits(c.method, c.error, used, promised, state) {
-        return Tested::Refused(Refusal::OwnError);
+    if !own_fits(f, c.method, c.error) {
+        return Err(Refusal::OwnError);
     }
     if LAST_TICKET < c.ticket {
-        return Tested::Refused(Refusal::NoTicket);
+        return Err(Refusal::NoTicket);
     }
-    Tested::Passed
+    Ok(())
 }
 
 // Whether the limits that an open gives to used and promised are in range; else it is refused 17.
 pub fn limits_fit(l0: u32, l1: u32) -> bool
     ensures { result ≡ limits_fit l0 l1 }
 {
-    if MOST_ERROR < l0 {
-        return false;
-    }
-    l1 <= MOST_ERROR
+    l0 <= MOST_ERROR && l1 <= MOST_ERROR
 }

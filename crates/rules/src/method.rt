@@ -1,33 +1,50 @@
 // The methods of a disk. No other file knows their numbers: this one says of each method what it sets, adds to and reads, as masks
 // with one bit for each attribute, and its row in the compatibility table.
 
-ghost use Rattle.std.specs.Prelude.{◌≡◌, ◌<◌, ltb};
+ghost use Rattle.std.specs.Prelude.{◌≡◌, ltb};
 ghost use Rattle.law.specs.Entries.{entry_by, kind_at};
 ghost use Rattle.law.specs.DiskType.{disk_table};
-ghost use Rattle.law.specs.DiskType.{entry_at};
-ghost use Rattle.rules.specs.Methods.{set_mask, add_mask, read_mask, write_mask, is_reading, is_add, sets_state, bounds_of, index_of};
+ghost use Rattle.rules.specs.Methods.{method_of, set_mask, add_mask, read_mask, write_mask, is_reading, is_add, sets_state, bounds_of};
 ghost use Rattle.rules.specs.Masks.{word_of, masks_by, masks_of};
 
 use law::Entry;
 use law::Entry::{A, D, G, N};
 use law::limits::{MOST_ERROR, MOST_FLAG, MOST_STATE, MOST_VALUE};
 
-// 0 ReportUsed, 1 AddPromised, 2 SetPromised, 3 SetState, 4 ReadUsed, 5 ReadLoad, 6 ReadState.
-const METHODS: u32 = 7;
+// The methods, in the order of their numbers, 0 to 6.
+#[derive(Clone, Copy, PartialEq, Eq, Debug)]
+pub enum Method {
+    ReportUsed,
+    AddPromised,
+    SetPromised,
+    SetState,
+    ReadUsed,
+    ReadLoad,
+    ReadState,
+}
 
-const REPORT_USED: u32 = 0;
+// The number of no method.
+#[derive(Clone, Copy, PartialEq, Eq, Debug)]
+pub struct Unknown;
 
-const ADD_PROMISED: u32 = 1;
+impl TryFrom<u32> for Method {
+    type Error = Unknown;
 
-const SET_PROMISED: u32 = 2;
+    ghost try_from_gives = { λ m r. r ≡ method_of m };
 
-const SET_STATE: u32 = 3;
-
-const READ_USED: u32 = 4;
-
-const READ_LOAD: u32 = 5;
-
-const READ_STATE: u32 = 6;
+    fn try_from(m: u32) -> Result<Method, Unknown> {
+        match m {
+            0 => Ok(Method::ReportUsed),
+            1 => Ok(Method::AddPromised),
+            2 => Ok(Method::SetPromised),
+            3 => Ok(Method::SetState),
+            4 => Ok(Method::ReadUsed),
+            5 => Ok(Method::ReadLoad),
+            6 => Ok(Method::ReadState),
+            _ => Err(Unknown),
+        }
+    }
+}
 
 // The masks: bit 0 used, bit 1 promised, bit 2 state.
 pub const USED: u8 = 1;
@@ -39,7 +56,7 @@ const LOAD: u8 = 3;
 pub const STATE: u8 = 4;
 
 // The compatibility table. Row: active method; column: requested.
-pub const TABLE: [[Entry; 7]; 7] = [
+pub static TABLE: [[Entry; 7]; 7] = [
     [D, A, A, A, G, G, A],
     [A, A, N, A, A, G, A],
     [A, N, D, A, A, G, A],
@@ -53,7 +70,7 @@ pub const TABLE: [[Entry; 7]; 7] = [
 pub fn is_known(m: u32) -> bool
     ensures { result ≡ ltb m 7 }
 {
-    m < METHODS
+    Method::try_from(m).is_ok()
 }
 
 // What a method does: the masks of what it sets, of what it adds to and of what it reads. And three words of such masks, each with what
@@ -97,15 +114,15 @@ fn doing(sets: u8, adds: u8, reads: u8) -> Masks
 pub(crate) fn masks_of(m: u32) -> Masks
     ensures { result ≡ masks_of m }
 {
-    match m {
-        REPORT_USED => doing(USED, 0, 0),
-        ADD_PROMISED => doing(0, PROMISED, 0),
-        SET_PROMISED => doing(PROMISED, 0, 0),
-        SET_STATE => doing(STATE, 0, 0),
-        READ_USED => doing(0, 0, USED),
-        READ_LOAD => doing(0, 0, LOAD),
-        READ_STATE => doing(0, 0, STATE),
-        _ => doing(0, 0, 0),
+    match Method::try_from(m) {
+        Ok(Method::ReportUsed) => doing(USED, 0, 0),
+        Ok(Method::AddPromised) => doing(0, PROMISED, 0),
+        Ok(Method::SetPromised) => doing(PROMISED, 0, 0),
+        Ok(Method::SetState) => doing(STATE, 0, 0),
+        Ok(Method::ReadUsed) => doing(0, 0, USED),
+        Ok(Method::ReadLoad) => doing(0, 0, LOAD),
+        Ok(Method::ReadState) => doing(0, 0, STATE),
+        Err(Unknown) => doing(0, 0, 0),
     }
 }
 
@@ -138,21 +155,28 @@ pub fn writes(m: u32) -> u8
 pub fn is_reading(m: u32) -> bool
     ensures { result ≡ is_reading (kind_at disk_table m) }
 {
-    READ_USED <= m
+    match Method::try_from(m) {
+        Ok(method) => match method {
+            Method::ReportUsed | Method::AddPromised | Method::SetPromised | Method::SetState =>
+                false,
+            Method::ReadUsed | Method::ReadLoad | Method::ReadState => true,
+        },
+        Err(Unknown) => true,
+    }
 }
 
 // Whether a method adds.
 pub(crate) fn is_add(m: u32) -> bool
     ensures { result ≡ is_add (kind_at disk_table m) }
 {
-    m == ADD_PROMISED
+    Method::try_from(m) == Ok(Method::AddPromised)
 }
 
 // Whether a method sets the state, whose values are codes.
 pub fn sets_state(m: u32) -> bool
     ensures { result ≡ sets_state (kind_at disk_table m) }
 {
-    m == SET_STATE
+    Method::try_from(m) == Ok(Method::SetState)
 }
 
 // How large the fields of a claim may be: for each field a row of seven, by method. The values come first, then these.
@@ -177,24 +201,12 @@ pub fn bounds(used: u32, promised: u32, clock: u32) -> [u32; 35]
     ]
 }
 
-// The index of a method in the table; 0 for an unknown method, whose entries `entry` knows to be A.
-pub fn index_of(m: u32) -> usize
-    ensures value { result ≡ index_of m }
-    ensures upper_bound { result < 7 }
-{
-    if m < METHODS { m as usize } else { 0 }
-}
-
-// The entry of an active method, the row, and a requested one, by what the table has at their indices. An unknown method has entry A
-// with all.
-pub fn entry(row: u32, col: u32, found: Entry) -> Entry
-    requires { found ≡ entry_at (index_of row) (index_of col) }
+// The entry of an active method, the row, and a requested one. An unknown method has entry A with all.
+pub fn entry(row: u32, col: u32) -> Entry
     ensures { result ≡ entry_by (kind_at disk_table row) (kind_at disk_table col) }
 {
-    if row < METHODS {
-        if col < METHODS {
-            return found;
-        }
+    if is_known(row) && is_known(col) {
+        return TABLE[row as usize][col as usize];
     }
     Entry::A
 }

@@ -10,24 +10,14 @@ use law::Claim;
 pub fn no_claim() -> Claim
     ensures { result ≡ no_claim }
 {
-    Claim {
-        ticket: 0,
-        method: 0,
-        priority: 0,
-        flag: 0,
-        measured: 0,
-        value: 0,
-        error: 0,
-        told: 0,
-        amount: 0,
-    }
+    Claim::default()
 }
 
 // A priority and a ticket in one number, the priority first.
 fn joined(priority: u32, ticket: u32) -> u64
     ensures { result ≡ priority * 4_294_967_296 + ticket }
 {
-    priority as u64 * 4294967296 + ticket as u64
+    u64::from(priority) * 4294967296 + u64::from(ticket)
 }
 
 // Whether `x` comes before `y` in the pass: higher priority first, then lower ticket. One comparison decides, each ticket joined

@@ -7,86 +7,69 @@ mod lines;
 mod record;
 mod rows;
 
-ghost use Rattle.std.specs.Prelude.{◌≡◌, ◌<◌, ◌≤◌, length, IfOk};
+ghost use Rattle.std.specs.Prelude.{◌≡◌};
 ghost use Rattle.situations.specs.Rows.{after_row};
 
-use crate::lines::{print_answer, print_shown};
-use crate::record::{DISK, record_of};
-use crate::rows::{COUNT, OPEN, ROWS, SHOW};
+use crate::lines::{Situation, print_answer, print_shown};
+use crate::record::record_of;
+use crate::rows::{DISK, ROWS, Row};
 use answer::ANSWER_BYTES;
 use desk::board::{BOARD_BYTES, step};
-use part::read::active_at;
+use part::layout::{ACTIVE_AT, PART_BYTES, SLOT_BYTES};
+use part::read::claim_at;
 use std::io;
 
 const HEAD_BYTES: usize = 64;
 
-const PART_BYTES: usize = 768;
+// Where the slots of the disk's active claims begin.
+const SLOTS_FROM: usize = HEAD_BYTES + PART_BYTES * DISK as usize + ACTIVE_AT;
 
-// Where the part of the disk begins and ends.
-const PART_FROM: usize = HEAD_BYTES + PART_BYTES * DISK as usize;
-
-const PART_TO: usize = PART_FROM + PART_BYTES;
-
+// Each open begins a situation on an empty board.
 fn main(rt: HostRuntime) -> io::Result<()> {
-    let mut i: usize = 0;
-    while i < COUNT {
-        i = situation_from(&rt, i)?;
+    let mut board = [0; BOARD_BYTES];
+    let mut situation = Situation(0);
+    for row in ROWS.iter() {
+        if let Row::Open(number, ..) = *row {
+            board.fill(0);
+            situation = Situation(number);
+        }
+        turn(&rt, &mut board, situation, *row)?;
     }
     Ok(())
 }
 
-// Runs the situation whose open is row `first`, on an empty board; returns the row at which the next one begins.
-fn situation_from(rt: &impl Print, first: usize) -> io::Result<usize>
-    requires { first < 87 }
-    ensures { IfOk result (λ next. (first < next) × (next ≤ 87)) }
-{
-    let mut board = [0; BOARD_BYTES];
-    let open = row(first);
-    let situation = open[4];
-    turn(rt, &mut board, situation, open)?;
-    let mut i = first + 1;
-    while i < COUNT {
-        let q = row(i);
-        if q[0] == OPEN {
-            return Ok(i);
-        }
-        turn(rt, &mut board, situation, q)?;
-        i += 1;
-    }
-    Ok(i)
-}
-
-// Row i of the table.
-fn row(i: usize) -> [u32; 8]
-    requires { i < 87 }
-{
-    let rows = ROWS;
-    rows[i]
-}
-
 // One row: makes its call and prints the answer, or prints what it shows.
-fn turn(rt: &impl Print, board: &mut [u8], situation: u32, q: [u32; 8]) -> io::Result<()>
-    requires { length board.old ≡ 49_216 }
-    ensures { board.new ≡ after_row board.old q }
+#[tactic(auto, unfolding(crate::specs::Rows::after_row))]
+fn turn(
+    rt: &impl Print,
+    board: &mut [u8; BOARD_BYTES],
+    situation: Situation,
+    row: Row,
+) -> io::Result<()>
+    ensures { board.new ≡ after_row board.old row }
 {
-    let kind = q[0];
-    if kind == SHOW {
-        return show(rt, &board[PART_FROM..PART_TO], situation, q[1]);
+    if let Row::Show(ticket) = row {
+        return show(rt, board, situation, ticket);
     }
-    let r = record_of(q);
+    let Some(record) = record_of(row) else {
+        return Ok(());
+    };
     let mut answer = [0; ANSWER_BYTES];
-    step(board, &r, &mut answer);
-    print_answer(rt, situation, kind, &answer)
+    step(board, &record, &mut answer);
+    print_answer(rt, situation, row, &answer)
 }
 
 // Prints the told sum and the amount of the active claim with that ticket.
-fn show(rt: &impl Print, part: &[u8], situation: u32, ticket: u32) -> io::Result<()>
-    requires { length part.now ≡ 768 }
-{
+fn show(
+    rt: &impl Print,
+    board: &[u8; BOARD_BYTES],
+    situation: Situation,
+    ticket: u32,
+) -> io::Result<()> {
     for i in 0..8 {
-        let c = active_at(part, i);
+        let c = claim_at(board, SLOTS_FROM + SLOT_BYTES * i);
         if c.ticket == ticket {
-            print_shown(rt, situation, ticket, c.told, c.amount)?;
+            print_shown(rt, situation, c)?;
         }
     }
     Ok(())

@@ -1,46 +1,25 @@
 // The record of a row of the table.
 
-ghost use Rattle.std.specs.Prelude.{◌≡◌, ◌%◌};
-ghost use Rattle.situations.specs.Rows.{claim_of, record_of};
+ghost use Rattle.std.specs.Prelude.{◌≡◌};
+ghost use Rattle.situations.specs.Rows.{record_of};
 
-use crate::rows::{CLOSED, OPEN, RELEASE};
+use crate::rows::{DISK, Row};
 use desk::record::laid_out;
+use num::signed::to_word;
 
-// The disk of every situation, as in 01's printed run; and one that stays closed.
-pub const DISK: u8 = 3;
-
-const CLOSED_DISK: u8 = 4;
-
-// The record of a row.
-pub(crate) fn record_of(q: [u32; 8]) -> [u8; 24]
-    ensures { result ≡ record_of q }
+// The record of a row, if it makes a call.
+pub(crate) fn record_of(row: Row) -> Option<[u8; 24]>
+    ensures { result ≡ record_of row }
 {
-    let kind = q[0];
-    if kind == OPEN {
-        return laid_out(1, DISK, 0, 0, 0, [q[1], 0, q[2], q[3]]);
+    match row {
+        Row::Open(_, now, used, promised) => {
+            Some(laid_out(1, DISK, 0, 0, 0, [now, 0, used, promised]))
+        }
+        Row::Claim(disk, now, method, priority, flag, measured, value, error) => {
+            let words = [now, measured, to_word(value), error];
+            Some(laid_out(2, disk, method, priority, flag, words))
+        }
+        Row::Release(now, ticket) => Some(laid_out(3, DISK, 0, 0, 0, [now, ticket, 0, 0])),
+        Row::Show(_) => None,
     }
-    if kind == RELEASE {
-        return laid_out(3, DISK, 0, 0, 0, [q[1], q[2], 0, 0]);
-    }
-    if kind == CLOSED {
-        return claim_on(CLOSED_DISK, q);
-    }
-    claim_on(DISK, q)
-}
-
-// The record of a claim on a disk.
-fn claim_on(disk: u8, q: [u32; 8]) -> [u8; 24]
-    ensures { result ≡ claim_of disk q }
-{
-    let method = byte(q[2]);
-    let priority = byte(q[3]);
-    let flag = byte(q[4]);
-    laid_out(2, disk, method, priority, flag, [q[1], q[5], q[6], q[7]])
-}
-
-// The lowest byte of a word.
-fn byte(x: u32) -> u8
-    ensures { result ≡ x % 256 }
-{
-    (x % 256) as u8
 }

@@ -34,5 +34,6 @@ raise_with m raise x = raise_by x (entry_by (kind_of disk_table x) (kind_at disk
 abbrev pub Raisable : List Claim → ℕ → ℕ → ℕ → Type 0
 Raisable cs n m raise =
     (i : ℕ) → i < n →
-    lets_by (entry_by (kind_of disk_table (get_or cs i no_claim)) (kind_at disk_table m)) false (get_or cs i no_claim).amount (get_or cs i no_claim).error raise
+    lets_by (entry_by (kind_of disk_table (get_or cs i no_claim)) (kind_at disk_table m)) false
+    (get_or cs i no_claim).amount (get_or cs i no_claim).error raise
     ≡ true

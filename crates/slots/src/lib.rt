@@ -4,7 +4,7 @@
 #![tactic(auto)]
 
 ghost use Rattle.std.specs.Prelude.{not, false, true, ◌≡◌, ◌+◌, ◌-◌, ◌≤◌, ◌<◌, take, get_or, set};
-ghost use Rattle.rules.specs.Rows.{no_claim, Row, RowIs, first_of, place_of, remove_at};
+ghost use Rattle.rules.specs.Rows.{no_claim, Row, RowIs, first_of, found_in, remove_at};
 ghost use Rattle.law.specs.Calls.{before, queue};
 ghost use Rattle.law.specs.Granting.{put_told};
 ghost use Rattle.rules.specs.Pairs.{lets_by};
@@ -16,7 +16,7 @@ use num::word::put_word;
 use part::layout::{SLOT_AMOUNT, SLOT_BYTES};
 use part::read::claim_at;
 use part::write::put_claim;
-use rules::method::{TABLE, entry, index_of};
+use rules::method::entry;
 use rules::row::{before, no_claim};
 
 // The claim of a slot.
@@ -38,20 +38,18 @@ pub fn put_slot(row: &mut [u8], i: usize, c: Claim)
     put_claim(row, SLOT_BYTES * i, c);
 }
 
-// The place of the claim of that ticket among the first n; n where there is none.
-pub fn find_in(row: &[u8], n: usize, ticket: u32) -> usize
+// The place of the claim of that ticket among the first n, if one has it.
+pub fn find_in(row: &[u8], n: usize, ticket: u32) -> Option<usize>
     requires slots { Slots row.now }
     requires row { Row (slots 8 row.now) n }
-    ensures { (result ≡ place_of ticket (take n (slots 8 row.now))) × (result ≤ n) }
+    ensures { result ≡ found_in ticket (take n (slots 8 row.now)) }
 {
-    let mut i: usize = 0;
-    while i < n {
+    for i in 0..n {
         if slot_at(row, i).ticket == ticket {
-            return i;
+            return Some(i);
         }
-        i += 1;
     }
-    i
+    None
 }
 
 // Takes the claim at `at` out of the first n: those behind it move up by one, and the last place is cleared.
@@ -63,11 +61,9 @@ pub fn take_out(row: &mut [u8], n: usize, at: usize)
     ensures row_is { RowIs (slots 8 row.new) (n - 1) (remove_at at (take n (slots 8 row.old))) }
 {
     let last = n - 1;
-    let mut i = at;
-    while i < last {
+    for i in at..last {
         let x = slot_at(row, i + 1);
         put_slot(row, i, x);
-        i += 1;
     }
     put_slot(row, last, no_claim());
 }
@@ -80,11 +76,8 @@ pub fn clear_from(row: &mut [u8], k: usize, n: usize)
     ensures slots_2 { Slots row.new }
     ensures row_is { RowIs (slots 8 row.new) k (take k (slots 8 row.old)) }
 {
-    let none = no_claim();
-    let mut m = n;
-    while k < m {
-        m -= 1;
-        put_slot(row, m, none);
+    for m in (k..n).rev() {
+        put_slot(row, m, no_claim());
     }
 }
 
@@ -94,16 +87,12 @@ fn place(row: &[u8], n: usize, c: Claim) -> usize
     requires row { Row (slots 8 row.now) n }
     ensures { (result ≡ first_of (λ w. not (before w c)) (take n (slots 8 row.now))) × (result ≤ n) }
 {
-    let mut i: usize = 0;
-    while i < n {
-        let x = slot_at(row, i);
-        if before(x, c) {
-            i += 1;
-        } else {
+    for i in 0..n {
+        if !before(slot_at(row, i), c) {
             return i;
         }
     }
-    i
+    n
 }
 
 // Puts `c` among the first n at its place in the pass's order: the claims from that place on move down by one.
@@ -115,12 +104,10 @@ pub fn queue_in(row: &mut [u8], n: usize, c: Claim)
     ensures row_is { RowIs (slots 8 row.new) (n + 1) (queue c (take n (slots 8 row.old))) }
 {
     let mut y = c;
-    let mut i = place(row, n, c);
-    while i < n {
+    for i in place(row, n, c)..n {
         let x = slot_at(row, i);
         put_slot(row, i, y);
         y = x;
-        i += 1;
     }
     put_slot(row, n, y);
 }
@@ -130,7 +117,8 @@ fn put_amount(row: &mut [u8], i: usize, amount: u32)
     requires slots { Slots row.old }
     requires i_bound { i < 8 }
     ensures slots_2 { Slots row.new }
-    ensures row_after { slots 8 row.new ≡ set (slots 8 row.old) i (put_told (get_or (slots 8 row.old) i no_claim) (get_or (slots 8 row.old) i no_claim).told amount) }
+    ensures row_after { let x = get_or (slots 8 row.old) i no_claim in
+        slots 8 row.new ≡ set (slots 8 row.old) i (put_told x x.told amount) }
 {
     put_word(row, SLOT_BYTES * i + SLOT_AMOUNT, amount);
 }
@@ -142,10 +130,8 @@ fn raised(x: Claim, e: Entry, raise: u64) -> u32
     ensures { result ≡ (raise_by x e raise).amount }
 {
     match e {
-        Entry::A => x.amount,
-        Entry::N => x.amount,
-        Entry::D => x.amount,
-        Entry::G => (x.amount as u64 + raise) as u32,
+        Entry::A | Entry::N | Entry::D => x.amount,
+        Entry::G => (u64::from(x.amount) + raise) as u32,
     }
 }
 
@@ -157,14 +143,8 @@ pub fn raise_all(row: &mut [u8], n: usize, m: u32, raise: u64)
     ensures slots_2 { Slots row.new }
     ensures row_after { slots 8 row.new ≡ map_to n (raise_with m raise) (slots 8 row.old) }
 {
-    let table = TABLE;
-    let col = index_of(m);
-    let mut i: usize = 0;
-    while i < n {
+    for i in 0..n {
         let x = slot_at(row, i);
-        let at = index_of(x.method);
-        let found = table[at][col];
-        put_amount(row, i, raised(x, entry(x.method, m, found), raise));
-        i += 1;
+        put_amount(row, i, raised(x, entry(x.method, m), raise));
     }
 }

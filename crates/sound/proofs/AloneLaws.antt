@@ -1,9 +1,9 @@
 -- Laws of a claim by itself: where the figures fit, what the code compares with the most that a claim's method may have are the
 -- law's tests of it.
 use Prim.Native.Nat.{ℕ, ◌+◌, ◌^◌, ◌≤◌, ◌<◌}
-use mathlib.Core.Bool.{Bool, true, false, cond, not, ◌&&◌, ◌||◌, and-true, and_comm}
+use mathlib.Core.Bool.{Bool, true, false, cond, not, ◌||◌, and-true}
 use mathlib.Core.List.{List, [], ◌∷◌, map}
-use mathlib.Core.Path.{◌≡◌, refl, sym, ap, ◌∙◌}
+use mathlib.Core.Path.{◌≡◌, refl, sym, ◌∙◌}
 use native.Mathlib.Omega.{arith}
 use borrow.Author.Tests.{ltb-true, leb-true, leb-false, lt-ltb, le-leb, lt-leb, eqb-true, eq-eqb}
 use lib.Dec.{leb, ltb, eqb}
@@ -14,7 +14,7 @@ use Rattle.num.specs.Metric.{size}
 use Rattle.num.specs.Signed.{word_of}
 use Rattle.law.specs.declared.Claim.{Claim}
 use Rattle.law.specs.Base.{all_true}
-use Rattle.law.specs.Lists.{never_true, Passed, passed, all_passed}
+use Rattle.law.specs.Lists.{Passed, passed, all_passed}
 use Rattle.law.specs.Says.{◌and◌}
 use Rattle.law.specs.Types.{most_value, most_error, most_state, most_priority, most_flag, Attribute, a0, a1, a2, Kind, sets, adds, reads, Figures, attr}
 use Rattle.law.specs.Entries.{kind_at, kind_of}
@@ -27,12 +27,16 @@ use Rattle.rules.specs.Methods.{bounds_of}
 use Rattle.rules.specs.Pairs.{add_of}
 use Rattle.rules.proofs.MethodLaws.{method_cases}
 use Rattle.sound.specs.Tests.{figure_tests, figure_fits, figures_tests, figures_fit, active_row, active_fits, waiting_fits, Bounds, if_reading, most_value_by, value_size_by, value_in, alone_tests, alone_fits, active_by, waiting_by}
+use mir.Val.{SFits}
+use Rattle.std.proofs.Common.{w32}
+use Rattle.std.proofs.lemmas.Bool.Decides.{nat_tests}
+use Rattle.std.proofs.lemmas.Int.{to_z-of_z}
 use Rattle.sound.proofs.WalkLaws.{same_test}
 
 -- ---- tests that are the same
 
 none : (n : ℕ) → leb n 0 ≡ eqb n 0
-none n = same_test (leb n 0) (eqb n 0) (λ e. eq-eqb n 0 (omega (arith, leb-true n 0 e))) (λ e. le-leb n 0 (omega (arith, eqb-true n 0 e)))
+none n = grind (arith, nat_tests)
 
 -- A code: the word of a figure below 0 is 2^31 or more.
 code_is : (z : ℤ) → mag z < 2 ^ 31 → leb (word_of z) most_state ≡ is_code z
@@ -53,10 +57,7 @@ pass_by : (a b c : Bool) → a ≡ false → b ≡ true → c ≡ true → not (
 pass_by a b c h k l = rw (h, k, l)
 
 by_pass : (a b c : Bool) → not (a || (not b || (not c || false))) ≡ true → (a ≡ false) × (b ≡ true) × (c ≡ true)
-by_pass true b c h = never_true _ h
-by_pass false false c h = never_true _ h
-by_pass false true false h = never_true _ h
-by_pass false true true h = (refl, refl, refl)
+by_pass a b c h = (grind arith, grind arith, grind arith)
 
 -- ---- by kind
 
@@ -195,10 +196,14 @@ module _ (f : Figures) (now next : ℕ) (h : figures_fit f now next ≡ true) wh
   most_by (adds a) = (attr f a).limit
   most_by (reads m) = most_error
 
-  rows_at : (m : ℕ) → m < 7 → (get_or most (7 + m) 0 ≡ most_by (kind_at disk_table m)) × (get_or most (14 + m) 0 ≡ if_reading (kind_at disk_table m) 0 now)
+  abbrev RowsAt : ℕ → Type 0
+  RowsAt m =
+      (get_or most (7 + m) 0 ≡ most_by (kind_at disk_table m)) × (get_or most (14 + m) 0 ≡ if_reading (kind_at disk_table m) 0 now)
+
+  rows_at : (m : ℕ) → m < 7 → RowsAt m
   unfolding disk_table
   rows_at =
-      method_cases (λ m. m < 7 → (get_or most (7 + m) 0 ≡ most_by (kind_at disk_table m)) × (get_or most (14 + m) 0 ≡ if_reading (kind_at disk_table m) 0 now))
+      method_cases (λ m. m < 7 → RowsAt m)
       (λ k. (refl, refl)) (λ k. (refl, refl)) (λ k. (refl, refl)) (λ k. (sym none_of_state, refl))
       (λ k. (refl, refl)) (λ k. (refl, refl)) (λ k. (refl, refl)) (λ m l k. absurd (omega arith))
 
@@ -220,7 +225,8 @@ module _ (f : Figures) (now next : ℕ) (h : figures_fit f now next ≡ true) wh
     unfolding alone_fits
     row_is = by (ltb c.method 7) refl
       where
-        by : (b : Bool) → ltb c.method 7 ≡ b → alone_fits most next c ≡ all_true (alone_tests (most_by kind) (if_reading kind 0 now) next kind c)
+        by : (b : Bool) → ltb c.method 7 ≡ b →
+            alone_fits most next c ≡ all_true (alone_tests (most_by kind) (if_reading kind 0 now) next kind c)
         by true e = let r = rows_at c.method (ltb-true c.method 7 e) in rw (r.0, r.1)
         by false e = rw e
 
@@ -229,15 +235,11 @@ module _ (f : Figures) (now next : ℕ) (h : figures_fit f now next ≡ true) wh
 
     pub active_is : active_by most next c ≡ active_fits f now next c
     unfolding active_by active_fits
-    active_is = (λ i. alone_is i && told_is now next c kind i) ∙ and_comm (lawful kind) (all_true (bare_by kind c ∷ reading_by kind c ∷ [])) ∙ last (bare_by kind c)
-      where
-        last : (b : Bool) → (all_true (b ∷ reading_by kind c ∷ []) && lawful kind) ≡ (b && (reading_by kind c && lawful kind))
-        last true = ap (λ (r : Bool). r && lawful kind) (and-true (reading_by kind c))
-        last false = refl
+    active_is = grind (arith, alone_is, told_is now next c kind)
 
     pub waiting_is : waiting_by most next c ≡ waiting_fits f now next c
     unfolding waiting_by waiting_fits
-    waiting_is = ap (λ (b : Bool). b && bare c) alone_is ∙ and_comm (lawful kind) (bare c)
+    waiting_is = grind (arith, alone_is)
 
 -- The rows of any disk are bounds.
 pub rows_bound : (used promised now : ℕ) → Bounds (bounds_of used promised now)
@@ -256,19 +258,30 @@ rows_bound used promised now =
           (λ k. refl) (λ k. refl) (λ k. refl) (λ k. refl) (λ k. refl) (λ k. refl) (λ k. refl) (λ m l k. absurd (omega arith));
     }
 
+-- What each row says of a claim whose method is known.
+module _ {most : List ℕ} (b : Bounds most) (c : Claim) where
+  pub value_bound : c.method < 7 → SFits w32 c.value →
+      leb (value_size_by (kind_of disk_table c) c.value) (get_or most c.method 0) ≡ value_in (kind_of disk_table c) c.value
+  value_bound k fits = rw (b.values c.method k) (value_is (kind_of disk_table c) c.value fits.sfits)
+
+  pub flag_bound : c.method < 7 → get_or most (21 + c.method) 0 ≡ if_reading (kind_of disk_table c) most_flag 0
+  flag_bound = b.flags c.method
+
+  pub told_bound : c.method < 7 → get_or most (28 + c.method) 0 ≡ if_reading (kind_of disk_table c) most_error 0
+  told_bound = b.tolds c.method
+
 -- What passes has a known method.
 pub known_method : (most : List ℕ) (next : ℕ) (c : Claim) → alone_fits most next c ≡ true → c.method < 7
 unfolding alone_fits
-known_method most next c e =
-    ltb-true c.method 7 (passed (alone_tests (get_or most (7 + c.method) 0) (get_or most (14 + c.method) 0) next (kind_of disk_table c) c) e).0
+known_method most next c e = grind (arith, nat_tests)
 
 -- What an active claim adds is in range.
 pub add_most : (f : Figures) (now next : ℕ) (c : Claim) → active_fits f now next c ≡ true → add_of c ≤ most_value
 unfolding active_fits add_of
 add_most f now next c h =
     let t = passed (map (λ p. p c) (active_row f now next)) h in
-    go (kind_of disk_table c)
-    (by_pass (past now next c) (all_true (field_tests now (kind_of disk_table c) c)) (own_fits f (kind_of disk_table c) c.error) t.1.1.1.1.1.1.0).1
+    let k : Kind = kind_of disk_table c in
+    go k (by_pass (past now next c) (all_true (field_tests now k c)) (own_fits f k c.error) t.1.1.1.1.1.1.0).1
   where
     go : (k : Kind) → all_true (field_tests now k c) ≡ true → cond (adds_to a1 k) (size c.value) 0 ≤ most_value
     go (sets a) e = omega arith
@@ -276,3 +289,8 @@ add_most f now next c h =
     go (adds a1) e = leb-true (size c.value) most_value (passed (field_tests now (adds a1) c) e).0
     go (adds a2) e = omega arith
     go (reads m) e = omega arith
+
+-- What the code's tests of a claim take.
+pub ruleset alone_laws = (nat_tests, to_z-of_z, value_bound, flag_bound)
+
+pub ruleset told_laws = (nat_tests, to_z-of_z, known_method, told_bound)

@@ -1,27 +1,29 @@
--- Laws of the disk that a part holds: its claims as the code reads them, and what is seen of the whole.
-use Prim.Native.Nat.{ℕ, ◌+◌, ◌≤◌, ◌<◌}
-use mathlib.Core.Bool.{true, false}
-use mathlib.Core.List.{List, ◌∷◌}
-use mathlib.Core.Path.{◌≡◌, sym, ◌∙◌, subst}
-use native.Mathlib.Omega.{arith}
-use lib.ListN.{length, drop, get_or, length-append, get_or-append}
-use lib.Seq.{get_or-take, get_or-append-add}
+-- Laws of the disk that a part holds: its claims as the code reads them, the bounds read of it, and what is seen of the whole.
+use Rattle.std.proofs.Common.{ℕ, ◌+◌, ◌-◌, ◌≤◌, ◌<◌, Bool, true, cond, Some, None, List, ◌≡◌, ◌∙◌, sym, ap, arith, length, get_or, length-append, get_or-take}
+use Rattle.std.proofs.lemmas.List.{get_or_append_left, get_or-append_right}
 use Rattle.law.specs.declared.Claim.{Claim}
 use Rattle.law.specs.Base.{all_true}
-use Rattle.law.specs.Sound.{claims_on, sound}
-use Rattle.law.specs.DiskType.{disk_table}
-use Rattle.rules.specs.Rows.{no_claim}
+use Rattle.law.specs.Sound.{claims_on}
+use Rattle.rules.specs.Rows.{no_claim, Row}
 use Rattle.rules.specs.RowLaws.{row_length}
-use Rattle.rules.specs.declared.totals.Totals.{Totals}
+use Rattle.num.specs.Metric.{size}
 use Rattle.rules.specs.Totals.{totals_of}
-use Rattle.rules.specs.Disks.{figures_in, Good}
+use Rattle.rules.proofs.TotalsLaws.{sum_is}
+use Rattle.rules.specs.Disks.{figures_in}
+use Rattle.part.specs.declared.status.Status.{Status}
+use Rattle.part.specs.declared.status.Status.TheVariants.{Active, Waiting}
+use Rattle.part.specs.Status.{count_in, places_in}
 use Rattle.part.specs.Layout.{decode}
-use Rattle.part.specs.LayoutLaws.{decode_good}
+use Rattle.part.specs.PartLaws.{disk_good}
 use Rattle.part.specs.Held.{held, HoldsDisk}
-use Rattle.sound.specs.Tests.{active_fits, waiting_fits, Bounds, active_by, waiting_by, code_tests}
-use Rattle.sound.specs.Seen.{Ready, none_seen, seen_of}
-use Rattle.sound.proofs.WalkLaws.{turn}
-use Rattle.sound.proofs.AloneLaws.{active_is, waiting_is, rows_bound}
+use Rattle.sound.specs.declared.alone.Most.{Most}
+use Rattle.sound.specs.declared.tickets.Marks.{Marks}
+use Rattle.sound.specs.declared.active.Walked.{Walked}
+use Rattle.sound.specs.Tests.{tickets_differ, active_fits, waiting_fits, active_by, waiting_by, code_tests}
+use Rattle.sound.specs.Seen.{no_marks, marks_from, marks_of, Ready, walked_of, seen_of}
+use Rattle.sound.proofs.AloneLaws.{active_is, waiting_is}
+use Rattle.sound.proofs.MarkLaws.{marks_append, marks_apart}
+use Rattle.sound.proofs.MeetLaws.{meets_is, seen_none, walked}
 use Rattle.sound.proofs.SoundLaws.{sound_is}
 
 -- The claims of a part.
@@ -35,73 +37,69 @@ abbrev pub claims : List ℕ → List Claim
 claims s = claims_on (held s)
 
 module _ {s : List ℕ} (h : HoldsDisk s) where
-  good : Good (decode s)
-  good = decode_good s h.long h.whole
+  -- Its two rows.
+  pub row_in : (status : Status) → Row (places_in status (decode s)) (count_in status (decode s))
+  row_in Active = (disk_good h).active
+  row_in Waiting = (disk_good h).waiting
 
-  -- How many there are.
-  pub some_active : (decode s).actives ≡ length (actives s)
-  some_active = sym (row_length good.active)
+  pub few_active : (decode s).actives ≤ 8
+  few_active = (row_in Active).few
 
-  pub few_active_lem : length (actives s) ≤ 8
-  few_active_lem = omega (arith, some_active, good.active.few)
-
-  pub some_waiting : (decode s).waitings ≡ length (waitings s)
-  some_waiting = sym (row_length good.waiting)
-
-  pub few_waiting_lem : length (waitings s) ≤ 8
-  few_waiting_lem = omega (arith, some_waiting, good.waiting.few)
-
-  pub some_claims : length (claims s) ≡ (decode s).actives + (decode s).waitings
-  some_claims = omega (arith, length-append (actives s) (waitings s), some_active, some_waiting)
-
-  pub few_claims : length (claims s) ≤ 16
-  few_claims = omega (arith, length-append (actives s) (waitings s), few_active_lem, few_waiting_lem)
-
-  -- The claim read at an index.
-  pub active_stands : (i : ℕ) → i < length (actives s) → get_or (decode s).active i no_claim ≡ get_or (actives s) i no_claim
-  active_stands i k = sym (get_or-take (decode s).actives (decode s).active i no_claim (omega (arith, some_active)))
-
-  pub waiting_stands : (i : ℕ) → i < length (waitings s) → get_or (decode s).waiting i no_claim ≡ get_or (waitings s) i no_claim
-  waiting_stands i k = sym (get_or-take (decode s).waitings (decode s).waiting i no_claim (omega (arith, some_waiting)))
+  pub few_waiting : (decode s).waitings ≤ 8
+  few_waiting = (row_in Waiting).few
 
   -- Among all claims the active ones stand first.
-  pub active_on : (i : ℕ) → i < length (actives s) → get_or (decode s).active i no_claim ≡ get_or (claims s) i no_claim
-  active_on i k = active_stands i k ∙ sym (get_or-append (actives s) (waitings s) no_claim i k)
+  pub some_claims : length (claims s) ≡ (decode s).actives + (decode s).waitings
+  some_claims =
+      omega (arith, length-append (actives s) (waitings s), row_length (row_in Active), row_length (row_in Waiting))
 
-  pub waiting_on : (i : ℕ) → i < length (waitings s) →
-      get_or (decode s).waiting i no_claim ≡ get_or (claims s) (length (actives s) + i) no_claim
-  waiting_on i k = waiting_stands i k ∙ sym (get_or-append-add (actives s) (waitings s) i no_claim)
+  pub active_on : (i : ℕ) → i < (decode s).actives → get_or (decode s).active i no_claim ≡ get_or (claims s) i no_claim
+  active_on i k =
+      sym
+      (get_or_append_left (actives s) (waitings s) no_claim i (omega (arith, row_length (row_in Active)))
+      ∙ get_or-take (decode s).actives (decode s).active i no_claim k)
 
-  -- A turn of a walk: the claim read, and those behind it.
-  pub active_turn : (i j : ℕ) {x : Claim} → i + 1 ≡ j → i < length (actives s) → x ≡ get_or (decode s).active i no_claim →
-      drop i (actives s) ≡ x ∷ drop j (actives s)
-  active_turn i j n k e = turn (actives s) i j n k (e ∙ active_stands i k)
+  pub waiting_on : (i : ℕ) → (decode s).actives ≤ i → i < (decode s).actives + (decode s).waitings →
+      get_or (decode s).waiting (i - (decode s).actives) no_claim ≡ get_or (claims s) i no_claim
+  waiting_on i l k =
+      sym
+      (get_or-append_right (actives s) (waitings s) (decode s).actives i no_claim (row_length (row_in Active)) l
+      ∙ get_or-take (decode s).waitings (decode s).waiting (i - (decode s).actives) no_claim (omega arith))
 
-  pub waiting_turn : (i j : ℕ) {x : Claim} → i + 1 ≡ j → i < length (waitings s) → x ≡ get_or (decode s).waiting i no_claim →
-      drop i (waitings s) ≡ x ∷ drop j (waitings s)
-  waiting_turn i j n k e = turn (waitings s) i j n k (e ∙ waiting_stands i k)
+  -- What reading a claim by its place among all takes.
+  pub ruleset claims_read = (few_active, few_waiting, active_on, waiting_on)
 
-  -- The tests in their order are the law's "Sound", so where one fails nothing is seen, and where all pass the totals are.
-  whole : all_true (code_tests (held s)) ≡ sound disk_table (held s)
-  whole = sound_is (held s) few_active_lem few_waiting_lem
-
-  pub seen_not : false ≡ all_true (code_tests (held s)) → none_seen ≡ seen_of (held s)
+  -- The tests in their order are the law's "Sound".
+  pub seen_is : seen_of (held s) ≡ cond (all_true (code_tests (held s))) (Some (totals_of (actives s))) None
   unfolding seen_of
-  seen_not e = rw (← whole, ← e)
+  seen_is =
+      rw (sound_is (held s) (omega (arith, row_length (row_in Active), few_active))
+      (omega (arith, row_length (row_in Waiting), few_waiting)))
 
-  pub seen_all : {t : Totals} → t ≡ totals_of (actives s) → all_true (code_tests (held s)) ≡ true →
-      record { ok = true; totals = t } ≡ seen_of (held s)
-  unfolding seen_of
-  seen_all q e = rw (← whole, e, q)
+-- The tests of a claim by itself.
+abbrev pub active_fit : List ℕ → Claim → Bool
+active_fit s = active_fits (figures_in (decode s)) (decode s).clock (decode s).next
 
--- The test of a claim with the bounds read is that with the disk's figures.
-module _ {s most : List ℕ} (r : Ready s most) (next : ℕ) (q : next ≡ (decode s).next) (c : Claim) where
-  pub active_by_lem : active_by most next c ≡ active_fits (figures_in (decode s)) (decode s).clock (decode s).next c
-  active_by_lem = (λ i. active_by (r.rows i) (q i) c) ∙ active_is (figures_in (decode s)) (decode s).clock (decode s).next r.figures c
+abbrev pub waiting_fit : List ℕ → Claim → Bool
+waiting_fit s = waiting_fits (figures_in (decode s)) (decode s).clock (decode s).next
 
-  pub waiting_by_lem : waiting_by most next c ≡ waiting_fits (figures_in (decode s)) (decode s).clock (decode s).next c
-  waiting_by_lem = (λ i. waiting_by (r.rows i) (q i) c) ∙ waiting_is (figures_in (decode s)) (decode s).clock (decode s).next r.figures c
+-- Where no bit of a ticket is met again, no two claims have the same.
+pub all_differ : (s : List ℕ) → (marks_from (marks_of (actives s)) (waitings s)).again ≡ 0 → tickets_differ (held s) ≡ true
+all_differ s h = marks_apart (claims s) (ap (λ (m : Marks). m.again) (marks_append no_marks (actives s) (waitings s)) ∙ h)
 
--- The rows read are bounds.
-pub ready_bounds : {s most : List ℕ} → Ready s most → Bounds most
-ready_bounds {s = s} r = subst Bounds (sym r.rows) (rows_bound (decode s).used.limit (decode s).promised.limit (decode s).clock)
+-- The walk over all active claims, which has seen nothing before, is their test.
+pub walked_all : (s : List ℕ) (w : Walked) →
+    ((w.totals.sum ≡ 0) × (w.totals.does ≡ 0)) × ((w.marks.met ≡ 0) × (w.marks.again ≡ 0)) →
+    walked (active_fit s) (size (decode s).promised.value) w (actives s) ≡ walked_of (held s)
+unfolding walked walked_of
+walked_all s w h = rw (seen_none w h, meets_is (actives s), sum_is (actives s))
+
+-- The test with the bounds read is that with the disk's figures.
+module _ {s : List ℕ} {most : Most} (r : Ready s most) (c : Claim) where
+  pub active_by_lem : active_by most.rows most.next c ≡ active_fit s c
+  active_by_lem =
+      (λ i. active_by (r.rows i) (r.next i) c) ∙ active_is (figures_in (decode s)) (decode s).clock (decode s).next r.figures c
+
+  pub waiting_by_lem : waiting_by most.rows most.next c ≡ waiting_fit s c
+  waiting_by_lem =
+      (λ i. waiting_by (r.rows i) (r.next i) c) ∙ waiting_is (figures_in (decode s)) (decode s).clock (decode s).next r.figures c

@@ -1,4 +1,3 @@
-pub mod TestLaws
 pub mod WalkLaws
 pub mod AloneLaws
 pub mod MarkLaws

@@ -1,14 +1,15 @@
 -- Laws of the tickets' marks: where no bit is met again, no two tickets are the same.
-use Prim.Native.Nat.{ℕ, ◌%◌, ◌^◌}
-use mathlib.Core.Bool.{Bool, true, false, not}
+use Prim.Native.Nat.{ℕ, ◌^◌}
+use mathlib.Core.Bool.{Bool, true, false, cond}
+use Rattle.std.specs.Prelude.{Option, Some, None}
 use mathlib.Core.List.{List, [], ◌∷◌, ◌++◌}
 use mathlib.Core.Path.{◌≡◌, refl, sym, ap, ◌∙◌}
-use borrow.Author.Tests.{eqb-true}
+use Rattle.std.proofs.lemmas.Bool.Decides.{nat_tests}
 use lib.Bits.{bit_and, bit_or, and_comm}
-use lib.Dec.{eqb}
+use native.Mathlib.Omega.{arith}
 use Rattle.num.specs.Bits.{has_bit, bit_set, bit_set_other, or_none, apart_bits}
 use Rattle.law.specs.declared.Claim.{Claim}
-use Rattle.law.specs.Base.{every_pair, All, Pairs}
+use Rattle.law.specs.Base.{every_of, every_pair, All, Pairs}
 use Rattle.law.specs.Lists.{all_say, never_true}
 use Rattle.sound.specs.declared.tickets.Marks.{Marks}
 use Rattle.sound.specs.Tests.{apart}
@@ -20,15 +21,26 @@ unfolding marks_from
 marks_append m [] ys = refl
 marks_append m (x ∷ xs) ys = marks_append (with_ticket m x) xs ys
 
--- A turn of a walk, with the claim x; and the end.
-pub marks_on : (m : Marks) {n : Marks} {xs rest : List Claim} {x : Claim} → xs ≡ x ∷ rest → n ≡ with_ticket m x →
-    marks_from n rest ≡ marks_from m xs
-unfolding marks_from
-marks_on m e w = rw (e, w)
+-- ---- the walk over claims that pass p, which adds their marks
 
-pub marks_end : (m : Marks) {xs : List Claim} → xs ≡ [] → marks_from m xs ≡ m
-unfolding marks_from
-marks_end m e = rw e
+unfoldable pub marked : (Claim → Bool) → Marks → List Claim → Option Marks
+marked p m xs = cond (every_of p xs) (Some (marks_from m xs)) None
+
+-- A turn of it, with the claim x; and the end.
+module _ (p : Claim → Bool) (m : Marks) {xs rest : List Claim} {x : Claim} (e : xs ≡ x ∷ rest) where
+  pub marked_on : p x ≡ true → marked p (with_ticket m x) rest ≡ marked p m xs
+  unfolding marked marks_from
+  marked_on h = rw (e, h)
+
+  pub marked_not : p x ≡ false → None ≡ marked p m xs
+  unfolding marked
+  marked_not h = rw (e, h)
+
+pub marked_end : (p : Claim → Bool) (m : Marks) {xs : List Claim} → xs ≡ [] → Some m ≡ marked p m xs
+unfolding marked marks_from
+marked_end p m e = rw e
+
+-- ---- marks and tickets
 
 -- A bit that is not set beside that of c is not c's, and was not set before.
 module _ (mask : ℕ) (c x : Claim) (h : has_bit (bit_or mask (2 ^ bit_of c)) (bit_of x) ≡ false) where
@@ -39,11 +51,7 @@ module _ (mask : ℕ) (c x : Claim) (h : has_bit (bit_or mask (2 ^ bit_of c)) (b
   unset = sym (bit_set_other mask (bit_of c) (bit_of x) unlike) ∙ h
 
   differs : apart c x ≡ true
-  differs = go (eqb c.ticket x.ticket) refl
-    where
-      go : (b : Bool) → eqb c.ticket x.ticket ≡ b → not b ≡ true
-      go true e = absurd (unlike (ap (λ (n : ℕ). n % 64) (eqb-true c.ticket x.ticket e)))
-      go false e = refl
+  differs = grind (arith, nat_tests, unlike)
 
 -- A mask that shares nothing with a power of 2 does not have its bit.
 bit_unmet : (mask a : ℕ) → bit_and mask (2 ^ a) ≡ 0 → has_bit mask a ≡ false

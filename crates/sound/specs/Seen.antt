@@ -1,17 +1,19 @@
 -- What the test gathers on its way and hands on: the marks of tickets, and what it has seen of the whole disk.
-use Rattle.std.specs.Prelude.{ℕ, ◌%◌, ◌^◌, true, false, cond, List, [], ◌∷◌, ◌≡◌}
+use Rattle.std.specs.Prelude.{ℕ, ◌%◌, ◌^◌, true, cond, Option, Some, None, List, [], ◌∷◌, ◌≡◌}
 use Rattle.std.specs.Int.Bits.{bit_and, bit_or}
 use Rattle.law.specs.declared.Claim.{Claim}
 use Rattle.law.specs.Types.{Disk as LawDisk}
 use Rattle.law.specs.Sound.{sound}
 use Rattle.law.specs.DiskType.{disk_table}
 use Rattle.rules.specs.Methods.{bounds_of}
-use Rattle.rules.specs.Totals.{no_totals, totals_of}
+use Rattle.rules.specs.declared.totals.Totals.{Totals}
+use Rattle.rules.specs.Totals.{totals_of}
 use Rattle.part.specs.Layout.{decode}
 use Rattle.part.specs.Held.{held, HoldsDisk}
+use Rattle.sound.specs.declared.alone.Most.{Most}
 use Rattle.sound.specs.declared.tickets.Marks.{Marks}
-use Rattle.sound.specs.declared.Seen.{Seen}
-use Rattle.sound.specs.Tests.{figures_on}
+use Rattle.sound.specs.declared.active.Walked.{Walked}
+use Rattle.sound.specs.Tests.{figures_on, actives_fit, waitings_fit}
 
 -- ---- the marks of tickets
 
@@ -40,18 +42,24 @@ marks_of cs = marks_from no_marks cs
 abbrev pub most_in : List ℕ → List ℕ
 most_in s = bounds_of (decode s).used.limit (decode s).promised.limit (decode s).clock
 
--- A part that holds a disk whose figures fit, and the rows of its bounds.
-pub record Ready (s most : List ℕ) : Type 0 where
+-- A part that holds a disk whose figures fit, the rows of its bounds, and its next ticket.
+pub record Ready (s : List ℕ) (most : Most) : Type 0 where
   pub disk : HoldsDisk s
   pub figures : figures_on (held s) ≡ true
-  pub rows : most ≡ most_in s
+  pub rows : most.rows ≡ most_in s
+  pub next : most.next ≡ (decode s).next
 
--- ---- the whole
+-- ---- what the walks and the whole test hand on
 
--- What is seen of a disk that is not sound, and of any disk.
-abbrev pub none_seen : Seen
-none_seen = record { ok = false; totals = no_totals }
+-- The totals and the marks of the active claims, if these fit.
+unfoldable pub walked_of : LawDisk → Option Walked
+walked_of d =
+    cond (actives_fit d) (Some (record { totals = totals_of d.core.active; marks = marks_of d.core.active })) None
 
-unfoldable pub seen_of : LawDisk → Seen
-seen_of d =
-    record { ok = sound disk_table d; totals = cond (sound disk_table d) (totals_of d.core.active) no_totals }
+-- The marks of the waiting claims, added to others, if these claims fit.
+unfoldable pub waited_of : LawDisk → Marks → Option Marks
+waited_of d m = cond (waitings_fit d) (Some (marks_from m d.waiting)) None
+
+-- The totals of the active claims, if the disk is sound.
+unfoldable pub seen_of : LawDisk → Option Totals
+seen_of d = cond (sound disk_table d) (Some (totals_of d.core.active)) None

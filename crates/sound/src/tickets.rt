@@ -6,69 +6,63 @@ ghost use Rattle.rules.specs.Rows.{no_claim};
 ghost use Rattle.part.specs.Layout.{decode};
 ghost use Rattle.part.specs.Held.{held, HoldsDisk};
 ghost use Rattle.sound.specs.Tests.{tickets_differ};
-ghost use Rattle.sound.specs.Seen.{no_marks, with_ticket};
+ghost use Rattle.sound.specs.Seen.{with_ticket};
 
 use law::Claim;
 use num::bits::bit_of;
-use part::read::{active_at, actives_at, waiting_at, waitings_at};
+use part::layout::PART_BYTES;
+use part::read::{count_at, slot_at};
+use part::status::Status;
 
-// Masks of the last six bits of tickets: those met, and those met again.
-#[derive(Clone, Copy)]
+// Masks of the last six bits of tickets: those met, and those met again. The default is the marks of no tickets.
+#[derive(Clone, Copy, PartialEq, Eq, Debug, Default)]
 pub struct Marks {
     pub met: u64,
     pub again: u64,
 }
 
-// The marks of no tickets.
-pub(crate) fn no_marks() -> Marks
-    ensures { result ≡ no_marks }
-{
-    Marks { met: 0, again: 0 }
-}
-
-// The marks with the ticket of one claim more.
-pub(crate) fn with_ticket(m: Marks, c: Claim) -> Marks
-    ensures { result ≡ with_ticket m c }
-{
-    let bit = bit_of(c.ticket);
-    Marks {
-        met: m.met | bit,
-        again: m.again | m.met & bit,
+impl Marks {
+    // The marks with the ticket of one claim more.
+    #[tactic(auto, unfolding(crate::specs::Seen::with_ticket))]
+    pub(crate) fn with_ticket(self, c: Claim) -> Marks
+        ensures { result ≡ with_ticket self c }
+    {
+        let bit = bit_of(c.ticket);
+        Marks {
+            met: self.met | bit,
+            again: self.again | self.met & bit,
+        }
     }
 }
 
 // No two claims have the same ticket.
-pub(crate) fn apart(s: &[u8]) -> bool
+pub(crate) fn apart(s: &[u8; PART_BYTES]) -> bool
     requires { HoldsDisk s.now }
     ensures { result ≡ tickets_differ (held s.now) }
 {
-    let n = actives_at(s) as usize;
-    let all = n + waitings_at(s) as usize;
-    let mut i: usize = 0;
-    while i < all {
+    let n = count_at(s, Status::Active) as usize;
+    let all = n + count_at(s, Status::Waiting) as usize;
+    for i in 0..all {
         let x = claim_on(s, n, i);
-        let mut j: usize = i + 1;
-        while j < all {
-            let y = claim_on(s, n, j);
-            if x.ticket == y.ticket {
+        for j in i + 1..all {
+            if x.ticket == claim_on(s, n, j).ticket {
                 return false;
             }
-            j += 1;
         }
-        i += 1;
     }
     true
 }
 
 // Claim i of a part with n active ones: these first, then those that wait.
-fn claim_on(s: &[u8], n: usize, i: usize) -> Claim
+#[tactic(auto, using(crate::proofs::DiskLaws::claims_read))]
+fn claim_on(s: &[u8; PART_BYTES], n: usize, i: usize) -> Claim
     requires holds_disk { HoldsDisk s.now }
     requires n_value { n ≡ (decode s.now).actives }
     requires i_bound { i < n + (decode s.now).waitings }
     ensures { result ≡ get_or (claims_on (held s.now)) i no_claim }
 {
     if i < n {
-        return active_at(s, i);
+        return slot_at(s, Status::Active, i);
     }
-    waiting_at(s, i - n)
+    slot_at(s, Status::Waiting, i - n)
 }

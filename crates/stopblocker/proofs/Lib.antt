@@ -1,5 +1,4 @@
--- What the loops of the program keep.
-pub mod DigitLaws
-pub mod GrantLaws
-pub mod CarryLaws
+-- What std prints of a number, what the items of an answer buffer show, and what the loops of the program keep.
+pub mod DecimalLaws
+pub mod ItemLaws
 pub mod GoingLaws

@@ -1,6 +1,8 @@
 -- Each word keeps the length, so all four are within; one behind the other they are the item's run.
-use Rattle.std.proofs.Common.{ℕ, ◌+◌, List, [], ◌∷◌, ◌++◌, ◌≡◌, refl}
+use Rattle.std.proofs.Common.{ℕ, ◌+◌, List, [], ◌∷◌, ◌++◌, ◌≡◌, refl, rules}
 use mir.Facts.{to_z-of_z}
+use mir.Syntax.{w32}
+use mir.Val.{SFits}
 use Rattle.num.specs.Word.{put_word}
 use Rattle.num.specs.Runs.{le4, flat, splice}
 use Rattle.num.specs.RunLaws.{put_splice, splice_splice}
@@ -21,11 +23,12 @@ four_words l at x y z w =
 
 pub returns : goal.returns
 returns c =
+    let told : SFits w32 c.args.item.told = search rules in
     rw (
       c.put_word-4.ensures,
       c.put_word-3.ensures,
       c.put_word-2.ensures,
       c.put_word.ensures,
       c.to_word.ensures,
-      to_z-of_z c.ranges.told,
-    ) (four_words c.args.out.now c.args.at c.args.code c.args.ticket (word_of c.args.told) c.args.amount)
+      to_z-of_z told,
+    ) (four_words c.args.out.now c.args.at c.args.item.code c.args.item.ticket (word_of c.args.item.told) c.args.item.amount)

@@ -1,5 +1,5 @@
 -- A claim put where it stands changes nothing; elsewhere its slot is put, as the disk's is.
-use Rattle.std.proofs.Common.{ℕ, List, ◌≡◌, sym, ap, ◌∙◌, subst, arith, rules, set, take, drop}
+use Rattle.std.proofs.Common.{ℕ, List, ◌≡◌, arith, rules, set, take, drop}
 use lib.Seq.{set-get_or}
 use borrow.Rule.Slice.PartMut.{put_mid}
 use Rattle.num.specs.Word.{Bytes}
@@ -11,57 +11,38 @@ use Rattle.part.specs.Layout.{slots, decode}
 use Rattle.part.specs.PartLaws.{disk_good}
 use Rattle.part.specs.Held.{HoldsDisk}
 use Rattle.slots.specs.Slots.{Slots}
-use Rattle.change.specs.Holding.{Holds, with_waiting}
+use Rattle.change.specs.Holding.{Holds}
 use Rattle.change.specs.HoldingLaws.{disk_holds, holds_disk, holds_decode, waiting_slots, waiting_lent, waiting_back}
 use Rattle.pass.specs.Turns.{tried, kept_at}
 use Rattle.pass.proofs.keep.Goals as goal
 
 -- A claim put where it stands.
 stays : (d : Disk) (i k : ℕ) → k ≡ i → d ≡ kept_at d i k
-stays d i k e =
-    ap (with_waiting d d.waitings) (sym (set-get_or d.waiting i no_claim))
-    ∙ ap (λ (j : ℕ). with_waiting d d.waitings (set d.waiting j (tried d i))) (sym e)
+stays d i k e = rw (e, set-get_or d.waiting i no_claim)
 
 -- The part that the slot put leaves.
 moved : {s row : List ℕ} (i k : ℕ) {c : Claim} → HoldsDisk s → Bytes s → Slots row → c ≡ tried (decode s) i →
     slots 8 row ≡ set (slots 8 (take 352 (drop 416 s))) k c → Holds (put_mid 416 352 s row) (kept_at (decode s) i k)
-moved {s} {row} i k h b back e put =
-    let now : slots 8 row ≡ set (decode s).waiting k (tried (decode s) i) =
-    put ∙ (λ j. set (waiting_slots (disk_holds h b) j) k (e j)) in
-    subst (λ (cs : List Claim). Holds (put_mid 416 352 s row) (with_waiting (decode s) (decode s).waitings cs)) now
-    (waiting_back (disk_holds h b) back)
-
-pub overflow_add-result : goal.overflow_add-result
-overflow_add-result c =
-    let few = (disk_good c.requires.holds_disk).waiting.few in
-    record { fits = omega (arith, few) }
+moved i k h b back e put = rw (put, waiting_slots (disk_holds h b), e) at (waiting_back (disk_holds h b) back)
 
 pub returns-then-k-i-clause-s_after : goal.returns-then-k-i-clause-s_after
 returns-then-k-i-clause-s_after c = stays (decode c.args.s.now) c.args.i c.args.k c.if-k-i.true
-
-pub waiting_at-c-requires-clause-i_bound : goal.waiting_at-c-requires-clause-i_bound
-waiting_at-c-requires-clause-i_bound c =
-    let few = (disk_good c.requires.holds_disk).waiting.few in omega (arith, few)
 
 pub put_slot-requires-clause-slots : goal.put_slot-requires-clause-slots
 put_slot-requires-clause-slots c =
     let b : Bytes c.args.s.now = λ k. search rules in
     waiting_lent (disk_holds c.requires.holds_disk b)
 
-pub put_slot-requires-clause-i_bound : goal.put_slot-requires-clause-i_bound
-put_slot-requires-clause-i_bound c =
-    let few = (disk_good c.requires.holds_disk).waiting.few in omega (arith, few)
-
 pub returns-clause-holds_disk_2 : goal.returns-clause-holds_disk_2
 returns-clause-holds_disk_2 c =
     let b : Bytes c.args.s.now = λ k. search rules in
-    let d = decode c.args.s.now in
     let good = disk_good c.requires.holds_disk in
-    let row = store_row good.waiting c.args.k (tried d c.args.i) (omega arith) in
-    holds_disk (moved c.args.i c.args.k c.requires.holds_disk b c.put_slot.ensures.slots_2 c.waiting_at-c.ensures c.put_slot.ensures.row_after)
-    (record { active = good.active; waiting = row })
+    let put = c.put_slot.ensures in
+    holds_disk (moved c.args.i c.args.k c.requires.holds_disk b put.slots_2 c.slot_at-c.ensures put.row_after)
+    (record { active = good.active; waiting = store_row good.waiting c.args.k (tried (decode c.args.s.now) c.args.i) (omega arith) })
 
 pub returns-clause-s_after : goal.returns-clause-s_after
 returns-clause-s_after c =
     let b : Bytes c.args.s.now = λ k. search rules in
-    holds_decode (moved c.args.i c.args.k c.requires.holds_disk b c.put_slot.ensures.slots_2 c.waiting_at-c.ensures c.put_slot.ensures.row_after)
+    let put = c.put_slot.ensures in
+    holds_decode (moved c.args.i c.args.k c.requires.holds_disk b put.slots_2 c.slot_at-c.ensures put.row_after)

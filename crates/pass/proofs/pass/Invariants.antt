@@ -1,4 +1,4 @@
-use Rattle.std.proofs.Common.{◌-◌, ◌≡◌, length}
+use Rattle.std.proofs.Common.{◌≡◌}
 use Rattle.rules.specs.Totals.{totals_of}
 use Rattle.part.specs.Layout.{decode}
 use Rattle.part.specs.Held.{HoldsDisk}
@@ -8,11 +8,7 @@ use Rattle.pass.proofs.pass.Given as goal
 
 abbrev pub invariant-loop-i : goal.invariant-loop-i
 invariant-loop-i l = record {
-  room : length l.answer ≡ 144;
   holds : HoldsDisk l.s;
   run : Run (decode l.fn.s) (decode l.s) l.fn.answer l.answer l.i l.k;
   totals : l.t ≡ totals_of (actives_in (decode l.s));
 }
-
-abbrev pub decreases-loop-i : goal.decreases-loop-i
-decreases-loop-i l = l.n - l.i

@@ -1,5 +1,5 @@
 -- Clearing from the end keeps a row of m claims whose first k are those at the start.
-use Rattle.std.proofs.Common.{◌≡◌, ◌-◌, ◌≤◌, take}
+use Rattle.std.proofs.Common.{◌≡◌, take}
 use Rattle.rules.specs.Rows.{Row}
 use Rattle.part.specs.Layout.{slots}
 use Rattle.slots.specs.Slots.{Slots}
@@ -7,7 +7,4 @@ use Rattle.slots.proofs.clear_from.Given as goal
 
 abbrev pub invariant-loop-m : goal.invariant-loop-m
 invariant-loop-m l =
-    (l.k ≤ l.m) × Slots l.row × Row (slots 8 l.row) l.m × (take l.k (slots 8 l.row) ≡ take l.k (slots 8 l.initial.row))
-
-abbrev pub decreases-loop-m : goal.decreases-loop-m
-decreases-loop-m l = l.m - l.k
+    Slots l.row × Row (slots 8 l.row) l.m × (take l.k (slots 8 l.row) ≡ take l.k (slots 8 l.initial.row))

@@ -12,17 +12,7 @@ returns c =
     let a = c.args in
     let row = a.row.now in
     let bytes : Bytes row = subst Bytes c.requires.slots.canonical (bytes_slots (slots 8 row)) in
-    let fits : ClaimFits a.c = record {
-      ticket = search rules;
-      method = search rules;
-      priority = search rules;
-      flag = search rules;
-      measured = search rules;
-      value = search rules;
-      error = search rules;
-      told = search rules;
-      amount = search rules;
-    } in
+    let fits : ClaimFits a.c = search rules in
     let both : Slots c.put_claim.new.s × (slots 8 c.put_claim.new.s ≡ set (slots 8 row) a.i a.c) =
     put_in (set_fits row bytes a.i a.c fits) (c.put_claim.ensures ∙ put_claim_in row c.requires.slots a.i a.c c.requires.i_bound) in
     record { slots_2 = both.0; row_after = both.1 }

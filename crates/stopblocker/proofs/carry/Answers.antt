@@ -1,10 +1,18 @@
--- Each byte is read where none has been written yet, and put behind those that were moved before it.
-use Rattle.stopblocker.proofs.CarryLaws.{begun, again}
+-- A copy within the run is the piece put at its front.
+use Rattle.std.proofs.Common.{ℕ, ◌+◌, ◌-◌, ◌≤◌, List, ◌++◌, ◌≡◌, length, take, drop, arith, sym, ap, ◌∙◌, length-drop, length-take-le}
+use Rattle.std.specs.List.{copy_within}
+use Rattle.num.specs.Runs.{splice}
+use Rattle.num.specs.RunLaws.{splice_eq}
 use Rattle.stopblocker.proofs.carry.Goals as goal
 
-pub loop-i-init : goal.loop-i-init
-loop-i-init c = begun c.args.run.now c.args.at c.args.end
+moved : (l : List ℕ) (at end : ℕ) → at ≤ end → end ≤ length l →
+    copy_within l at end 0 ≡ splice l 0 (take (end - at) (drop at l))
+moved l at end h k =
+    let piece = take (end - at) (drop at l) in
+    let size : length piece ≡ end - at =
+    length-take-le (end - at) (drop at l) (omega (arith, length-drop at l)) in
+    ap (λ n. piece ++ drop (0 + n) l) (sym size) ∙ sym (splice_eq l 0 piece (omega arith))
 
-pub loop-i-preserved : goal.loop-i-preserved
-loop-i-preserved c =
-    again c.args.run.now c.args.at c.args.end c.requires.end_in_bounds c.loop-i.run c.loop-i.i c.loop-i.invariant c.loop-i-test.true
+pub returns-clause-run_after : goal.returns-clause-run_after
+returns-clause-run_after c =
+    c.copy_within.ensures.after ∙ moved c.args.run.now c.args.at c.args.end c.requires.at_le_end c.requires.end_in_bounds

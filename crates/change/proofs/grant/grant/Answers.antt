@@ -1,7 +1,5 @@
 -- A reading is put behind the active claims; a write first raises them and notes its total.
-use Rattle.std.proofs.Common.{sym, ◌∙◌, arith, rules}
-use mir.Facts.{to_z-of_z}
-use Rattle.num.specs.Word.{Bytes}
+use Rattle.std.proofs.Common.{to_z-of_z, arith}
 use Rattle.part.specs.Layout.{decode}
 use Rattle.part.specs.PartLaws.{disk_good}
 use Rattle.change.specs.HoldingLaws.{disk_holds, holds_disk}
@@ -13,26 +11,25 @@ use Rattle.change.proofs.grant.grant.Goals as goal
 pub put_last-requires-clause-n_bound : goal.put_last-requires-clause-n_bound
 put_last-requires-clause-n_bound c =
     let z = c.requires in
-    omega (arith, c.actives_at-n.ensures, grant_place (decode c.args.s.now) c.args.c (disk_good z.holds_disk) z.may_grant)
+    omega (arith, c.count_at-n.ensures, grant_place (decode c.args.s.now) c.args.c (disk_good z.holds_disk) z.may_grant)
 
 pub returns-then-is_reading : goal.returns-then-is_reading
 returns-then-is_reading c =
     let z = c.requires in
     let g =
-    read_grants (decode c.args.s.now) c.args.c (disk_good z.holds_disk) z.may_grant (sym c.is_reading.ensures ∙ c.if-is_reading.true)
-    c.actives_at-n.ensures (to_z-of_z c.ranges.told ∙ z.told_value) z.total_value c.put_last.ensures in
+    read_grants (decode c.args.s.now) c.args.c (disk_good z.holds_disk) z.may_grant (cc)
+    c.count_at-n.ensures z.told_value z.total_value (rw (to_z-of_z c.ranges.told) at c.put_last.ensures) in
     record { holds_disk_2 = g.0; disk_is = g.1 }
 
 -- With the active claims raised, and with the total noted, the part holds a disk again.
 pub note-requires : goal.note-requires
 note-requires c =
-    let b : Bytes c.args.s.now = λ k. search rules in
     let z = c.requires in
     let d = decode c.args.s.now in
     let good = disk_good z.holds_disk in
     record {
       holds_disk = holds_disk c.raise_on.ensures (raised_good d c.args.c good);
-      note_fits = note_fits d c.args.c good z.may_grant (disk_holds z.holds_disk b) z.total_value;
+      note_fits = note_fits d c.args.c good z.may_grant (disk_holds z.holds_disk c.fits-s) z.total_value;
     }
 
 pub put_last-requires-2 : goal.put_last-requires-2
@@ -43,13 +40,13 @@ put_last-requires-2 c =
     let g = disk_good (holds_disk c.raise_on.ensures (raised_good d c.args.c good)) in
     record {
       holds_disk = holds_disk c.note.ensures (record { active = g.active; waiting = g.waiting });
-      n_bound = omega (arith, c.actives_at-n.ensures, grant_place d c.args.c good z.may_grant);
+      n_bound = omega (arith, c.count_at-n.ensures, grant_place d c.args.c good z.may_grant);
     }
 
 pub returns : goal.returns
 returns c =
     let z = c.requires in
     let g =
-    write_grants (decode c.args.s.now) c.args.c (disk_good z.holds_disk) z.may_grant (sym c.is_reading.ensures ∙ c.if-is_reading.false)
-    c.actives_at-n.ensures z.total_value c.raise_on.ensures c.note.ensures c.put_last-2.ensures in
+    write_grants (decode c.args.s.now) c.args.c (disk_good z.holds_disk) z.may_grant (cc)
+    c.count_at-n.ensures z.total_value c.raise_on.ensures c.note.ensures c.put_last-2.ensures in
     record { holds_disk_2 = g.0; disk_is = g.1 }

@@ -4,4 +4,4 @@ use Rattle.part.proofs.WholeLaws.{too_many}
 use Rattle.part.proofs.whole.slots_whole.Goals as goal
 
 pub returns-in_default : goal.returns-in_default
-returns-in_default c = too_many c.args.s.now c.args.at c.args.n (omega arith)
+returns-in_default c = grind (arith, too_many)

@@ -1,9 +1,6 @@
-use Rattle.std.proofs.Common.{◌-◌, ◌≡◌, ◌≤◌, nat_eq}
+use Rattle.std.proofs.Common.{◌≡◌, nat_eq}
 use Rattle.part.specs.Layout.{spare_zero}
 use Rattle.part.proofs.whole.spare_zero.Given as goal
 
 abbrev pub invariant-loop-i : goal.invariant-loop-i
-invariant-loop-i l = record { within : l.i ≤ l.n; joined : nat_eq l.all 0 ≡ spare_zero l.s l.at l.i }
-
-abbrev pub decreases-loop-i : goal.decreases-loop-i
-decreases-loop-i l = l.n - l.i
+invariant-loop-i l = nat_eq l.all 0 ≡ spare_zero l.s l.at l.i

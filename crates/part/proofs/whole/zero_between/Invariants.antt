@@ -4,6 +4,3 @@ use Rattle.part.proofs.whole.zero_between.Given as goal
 
 abbrev pub invariant-loop-i : goal.invariant-loop-i
 invariant-loop-i l = (nat_eq l.all 0 && zero_at l.s l.i (l.to - l.i)) ≡ zero_at l.s l.from (l.to - l.from)
-
-abbrev pub decreases-loop-i : goal.decreases-loop-i
-decreases-loop-i l = l.to - l.i

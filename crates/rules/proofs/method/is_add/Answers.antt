@@ -1,6 +1,7 @@
--- Method 1 alone adds.
-use Rattle.rules.proofs.MethodLaws.{add_row}
+-- Of the seven kinds one adds, that of method 1.
+use Rattle.std.proofs.Common.{rules}
+use Rattle.rules.proofs.MethodLaws.{kind_by}
 use Rattle.rules.proofs.method.is_add.Goals as goal
 
 pub returns : goal.returns
-returns c = add_row c.args.m
+returns c = rw (kind_by c.args.m c.try_from.ensures, c.eq.ensures) (search rules)

@@ -1,6 +1,13 @@
--- The methods from 4 on are the readings.
-use Rattle.rules.proofs.MethodLaws.{reading_from}
+-- Three of the kinds are readings, and so is that of no method.
+use Rattle.std.proofs.Common.{rules}
+use Rattle.rules.proofs.MethodLaws.{kind_by}
 use Rattle.rules.proofs.method.is_reading.Goals as goal
 
-pub returns : goal.returns
-returns c = reading_from c.args.m
+pub returns-in-ReportUsed : goal.returns-in-ReportUsed
+returns-in-ReportUsed c = rw (kind_by c.args.m c.in-Ok.ensures) (search rules)
+
+pub returns-in-ReadUsed : goal.returns-in-ReadUsed
+returns-in-ReadUsed c = rw (kind_by c.args.m c.in-Ok.ensures) (search rules)
+
+pub returns-in-Err : goal.returns-in-Err
+returns-in-Err c = rw (kind_by c.args.m c.in-Err.ensures)

@@ -1,40 +1,44 @@
--- Each method has its masks; an unknown one does nothing.
-use Rattle.std.proofs.Common.{◌∙◌, arith}
-use Rattle.law.specs.DiskType.{disk_table}
+-- Each method has the masks of its kind; an unknown one does nothing.
 use Rattle.rules.specs.Methods.{set_mask, add_mask, read_mask}
 use Rattle.rules.specs.Masks.{masks_of}
-use Rattle.rules.proofs.MethodLaws.{unknown}
+use Rattle.rules.proofs.MethodLaws.{kind_by}
 use Rattle.rules.proofs.method.masks_of.Goals as goal
 
-pub returns-in-0 : goal.returns-in-0
-unfolding masks_of set_mask add_mask read_mask disk_table
-returns-in-0 c = rw c.in-0.is c.doing.ensures
+pub returns-in-Ok-ReportUsed : goal.returns-in-Ok-ReportUsed
+unfolding masks_of set_mask add_mask read_mask
+returns-in-Ok-ReportUsed c =
+    rw (kind_by c.args.m c.in-Ok-ReportUsed.ensures, c.in-Ok-ReportUsed.field-0-is) c.doing.ensures
 
-pub returns-in-1 : goal.returns-in-1
-unfolding masks_of set_mask add_mask read_mask disk_table
-returns-in-1 c = rw c.in-1.is c.doing-in-1.ensures
+pub returns-in-Ok-AddPromised : goal.returns-in-Ok-AddPromised
+unfolding masks_of set_mask add_mask read_mask
+returns-in-Ok-AddPromised c =
+    rw (kind_by c.args.m c.in-Ok-AddPromised.ensures, c.in-Ok-AddPromised.field-0-is) c.doing-in-Ok-AddPromised.ensures
 
-pub returns-in-2 : goal.returns-in-2
-unfolding masks_of set_mask add_mask read_mask disk_table
-returns-in-2 c = rw c.in-2.is c.doing-in-2.ensures
+pub returns-in-Ok-SetPromised : goal.returns-in-Ok-SetPromised
+unfolding masks_of set_mask add_mask read_mask
+returns-in-Ok-SetPromised c =
+    rw (kind_by c.args.m c.in-Ok-SetPromised.ensures, c.in-Ok-SetPromised.field-0-is) c.doing-in-Ok-SetPromised.ensures
 
-pub returns-in-3 : goal.returns-in-3
-unfolding masks_of set_mask add_mask read_mask disk_table
-returns-in-3 c = rw c.in-3.is c.doing-in-3.ensures
+pub returns-in-Ok-SetState : goal.returns-in-Ok-SetState
+unfolding masks_of set_mask add_mask read_mask
+returns-in-Ok-SetState c =
+    rw (kind_by c.args.m c.in-Ok-SetState.ensures, c.in-Ok-SetState.field-0-is) c.doing-in-Ok-SetState.ensures
 
-pub returns-in-4 : goal.returns-in-4
-unfolding masks_of set_mask add_mask read_mask disk_table
-returns-in-4 c = rw c.in-4.is c.doing-in-4.ensures
+pub returns-in-Ok-ReadUsed : goal.returns-in-Ok-ReadUsed
+unfolding masks_of set_mask add_mask read_mask
+returns-in-Ok-ReadUsed c =
+    rw (kind_by c.args.m c.in-Ok-ReadUsed.ensures, c.in-Ok-ReadUsed.field-0-is) c.doing-in-Ok-ReadUsed.ensures
 
-pub returns-in-5 : goal.returns-in-5
-unfolding masks_of set_mask add_mask read_mask disk_table
-returns-in-5 c = rw c.in-5.is c.doing-in-5.ensures
+pub returns-in-Ok-ReadLoad : goal.returns-in-Ok-ReadLoad
+unfolding masks_of set_mask add_mask read_mask
+returns-in-Ok-ReadLoad c =
+    rw (kind_by c.args.m c.in-Ok-ReadLoad.ensures, c.in-Ok-ReadLoad.field-0-is) c.doing-in-Ok-ReadLoad.ensures
 
-pub returns-in-6 : goal.returns-in-6
-unfolding masks_of set_mask add_mask read_mask disk_table
-returns-in-6 c = rw c.in-6.is c.doing-in-6.ensures
+pub returns-in-Ok-ReadState : goal.returns-in-Ok-ReadState
+unfolding masks_of set_mask add_mask read_mask
+returns-in-Ok-ReadState c =
+    rw (kind_by c.args.m c.in-Ok-ReadState.ensures, c.in-Ok-ReadState.field-0-is) c.doing-in-Ok-ReadState.ensures
 
-pub returns-in_default : goal.returns-in_default
-returns-in_default c =
-    c.doing-in_default.ensures
-    ∙ unknown c.args.m (λ e. omega arith) (λ e. omega arith) (λ e. omega arith) (λ e. omega arith) (λ e. omega arith) (λ e. omega arith) (λ e. omega arith)
+pub returns-in-Err : goal.returns-in-Err
+unfolding masks_of set_mask add_mask read_mask
+returns-in-Err c = rw (kind_by c.args.m c.in-Err.ensures) c.doing-in-Err.ensures

@@ -10,7 +10,7 @@ pub returns-then-is_add-clause-value : goal.returns-then-is_add-clause-value
 unfolding add_of
 returns-then-is_add-clause-value c =
     let fits : SFits w32 c.args.x.value = search rules in
-    rw (← add_is c.args.x.method, ← c.is_add.ensures, c.if-is_add.true) (rw (to_z-of_z fits) at c.size.ensures.value)
+    rw (← add_is c.args.x.method, ← c.is_add.ensures, c.if-is_add.true, c.from.ensures) (rw (to_z-of_z fits) at c.size.ensures.value)
 
 pub returns-else-is_add-clause-value : goal.returns-else-is_add-clause-value
 unfolding add_of

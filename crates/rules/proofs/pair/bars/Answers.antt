@@ -1,25 +1,23 @@
 -- The three tests in turn.
-use Rattle.std.proofs.Common.{◌∙◌}
-use borrow.Author.Tests.{le-leb, lt-leb}
+use Rattle.std.proofs.Common.{arith}
+use Rattle.std.proofs.lemmas.Grind.{common_steps}
+use borrow.Author.Tests.{le-leb}
 use Rattle.rules.specs.Pairs.{bars_by}
-use Rattle.rules.proofs.EntryLaws.{last_test}
 use Rattle.rules.proofs.pair.bars.Goals as goal
+use Rattle.rules.proofs.pair.bars.Goals.{then-priority-w, else-priority-w}
 
-pub returns-then-w-priority : goal.returns-then-w-priority
+pub returns-then-ne : goal.returns-then-ne
 unfolding bars_by
-returns-then-w-priority c =
-    let a = c.args in
-    rw (lt-leb a.priority a.w.priority c.if-w-priority.true)
+returns-then-ne c =
+    elim c.if-priority-w.branch [
+      | then-priority-w w ↦ grind (arith, common_steps)
+      | else-priority-w w ↦ grind (arith, common_steps)
+    ]
 
-pub returns-then-is_always : goal.returns-then-is_always
+pub returns-else-ne : goal.returns-else-ne
 unfolding bars_by
-returns-then-is_always c =
-    let a = c.args in
-    rw (le-leb a.priority a.w.priority c.if-w-priority.false, ← c.is_always.ensures, c.if-is_always.true)
-
-pub returns : goal.returns
-unfolding bars_by
-returns c =
-    let a = c.args in
-    rw (le-leb a.priority a.w.priority c.if-w-priority.false, ← c.is_always.ensures, c.if-is_always.false)
-    (c.preconditions.ensures ∙ last_test _)
+returns-else-ne c =
+    elim c.if-priority-w.branch [
+      | then-priority-w w ↦ grind (arith, common_steps, le-leb)
+      | else-priority-w w ↦ grind (arith, common_steps)
+    ]

@@ -1,42 +1,42 @@
--- The number, the disk and the item, one behind the other.
-use Rattle.std.proofs.Common.{◌++◌, arith}
-use Rattle.stopblocker.specs.Text.{decimal}
-use Rattle.stopblocker.specs.Lines.{next, item_text, line_of}
-use Rattle.stopblocker.specs.LineLaws.{put_size, behind, length_line}
+-- What is pushed, piece by piece, is the line; std's text of each number is its decimal text.
+use Rattle.std.proofs.Common.{append_assoc, arith, rules, w32}
+use Rattle.std.proofs.lemmas.Int.{ints}
+use mir.Facts.{to_z-of_z}
+use mir.Val.{SFits}
+use Rattle.stopblocker.specs.Lines.{figures}
+use Rattle.stopblocker.proofs.DecimalLaws.{decimal_same, signed_same}
 use Rattle.stopblocker.proofs.lines.put_line.Goals as goal
 
-pub put_number-a-requires : goal.put_number-a-requires
-put_number-a-requires c = let a = c.args in omega (arith, length_line a.number a.disk a.answer.now a.k)
-
-pub put_next-b-requires : goal.put_next-b-requires
-put_next-b-requires c =
+pub returns-clause-after : goal.returns-clause-after
+unfolding figures
+returns-clause-after c =
     let a = c.args in
-    omega (arith, c.put_number-a.ensures.value, length_line a.number a.disk a.answer.now a.k)
-
-pub put_item-requires-clause-k_in_bounds : goal.put_item-requires-clause-k_in_bounds
-put_item-requires-clause-k_in_bounds c =
-    let a = c.args in
-    let w1 = c.put_number-a in
-    let w2 = c.put_next-b in
-    omega (
-      arith,
-      w1.ensures.value,
-      w2.ensures.value,
-      put_size w1.new.out w1.result (next a.disk) (w2.ensures.value, w2.ensures.out_after),
-      put_size a.out.now a.at (decimal a.number) (w1.ensures.value, w1.ensures.out_after),
-      length_line a.number a.disk a.answer.now a.k,
+    let fits : SFits w32 a.item.told = search rules in
+    let told = rw (to_z-of_z fits) at c.format-5.ensures.text in
+    rw (
+      c.push_str-12.ensures.bytes,
+      c.push_str-11.ensures.bytes,
+      c.push_str-10.ensures.bytes,
+      c.push_str-9.ensures.bytes,
+      c.push_str-8.ensures.bytes,
+      c.push_str-7.ensures.bytes,
+      c.push_str-6.ensures.bytes,
+      c.push_str-5.ensures.bytes,
+      c.push_str-4.ensures.bytes,
+      c.push_str-3.ensures.bytes,
+      c.push_str-2.ensures.bytes,
+      c.push_str.ensures.bytes,
+      c.format.ensures.text,
+      c.format-2.ensures.text,
+      c.format-3.ensures.text,
+      c.format-4.ensures.text,
+      told,
+      c.format-6.ensures.text,
+      decimal_same a.number (omega arith),
+      decimal_same a.disk (omega arith),
+      decimal_same a.item.code (omega arith),
+      decimal_same a.item.ticket (omega arith),
+      signed_same a.item.told (omega (arith, ints)),
+      decimal_same a.item.amount (omega arith),
     )
-
-pub returns : goal.returns
-unfolding line_of
-returns c =
-    let a = c.args in
-    let w1 = c.put_number-a in
-    let w2 = c.put_next-b in
-    let w3 = c.put_item in
-    let p =
-    behind a.out.now a.at (decimal a.number) (next a.disk ++ item_text a.answer.now a.k)
-    (w1.ensures.value, w1.ensures.out_after)
-    (behind w1.new.out w1.result (next a.disk) (item_text a.answer.now a.k)
-    (w2.ensures.value, w2.ensures.out_after) (w3.ensures.value, w3.ensures.out_after)) in
-    record { value = p.0; out_after = p.1 }
+    (simp append_assoc)

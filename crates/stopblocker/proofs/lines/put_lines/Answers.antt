@@ -1,39 +1,32 @@
--- The line of the call, and those of the grants behind it; there is room for nine.
-use Rattle.std.proofs.Common.{◌≤◌, arith, length}
-use Rattle.stopblocker.specs.Lines.{line_of, grant_lines, lines_of}
-use Rattle.stopblocker.specs.LineLaws.{put_size, behind, length_lines, lines_most}
+-- What is left, behind the text so far, is all of it.
+use Rattle.std.proofs.Common.{◌≡◌, ap, arith}
+use Rattle.answer.specs.Answers.{shown_at}
+use Rattle.stopblocker.proofs.ItemLaws.{begun, again, no_more, last}
 use Rattle.stopblocker.proofs.lines.put_lines.Goals as goal
 
-pub put_line-to-requires-clause-k_in_bounds : goal.put_line-to-requires-clause-k_in_bounds
-put_line-to-requires-clause-k_in_bounds c =
+pub loop-k-init : goal.loop-k-init
+loop-k-init c =
     let a = c.args in
-    omega (
-      arith,
-      length_lines a.number a.disk a.answer.now,
-      lines_most a.number a.disk a.answer.now (omega (arith, c.ranges.disk)) (λ i. (c.type_inv.answer i).fits),
-    )
+    begun a.to.now.bytes a.number a.disk a.answer.now c.told-answer c.put_line.new.to.bytes
+    (rw (c.put_line.ensures.after, c.shown_at.ensures)) (omega arith)
 
-pub put_grants-requires-clause-answer_in_bounds : goal.put_grants-requires-clause-answer_in_bounds
-put_grants-requires-clause-answer_in_bounds c =
+pub loop-k-preserved : goal.loop-k-preserved
+loop-k-preserved c =
     let a = c.args in
-    let w = c.put_line-to.ensures in
-    omega (
-      arith,
-      w.value,
-      put_size a.out.now a.at (line_of a.number a.disk a.answer.now 0) (w.value, w.out_after),
-      length_lines a.number a.disk a.answer.now,
-      lines_most a.number a.disk a.answer.now (omega (arith, c.ranges.disk)) (λ i. (c.type_inv.answer i).fits),
-    )
+    let w = c.put_line-in-loop-k in
+    let e : c.shown_at-grant.result.ticket ≡ (shown_at a.answer.now c.loop-k.k).ticket = ap (λ s. s.ticket) c.shown_at-grant.ensures in
+    again a.to.now.bytes a.number a.disk a.answer.now c.told-answer c.loop-k.to.bytes c.loop-k.k c.loop-k.invariant (omega arith)
+    (omega arith) w.new.to.bytes (rw (w.ensures.after, c.push_str.ensures.bytes, c.shown_at-grant.ensures)) (omega arith)
 
-pub returns : goal.returns
-unfolding lines_of
-returns c =
+pub returns-after-loop-k : goal.returns-after-loop-k
+returns-after-loop-k c =
     let a = c.args in
-    let w1 = c.put_line-to.ensures in
-    let w2 = c.put_grants.ensures in
-    let p =
-    behind a.out.now a.at (line_of a.number a.disk a.answer.now 0) (grant_lines 8 a.number a.disk a.answer.now 1)
-    (w1.value, w1.out_after) (w2.value, w2.out_after) in
-    let m : length (lines_of a.number a.disk a.answer.now) ≤ 648 =
-    lines_most a.number a.disk a.answer.now (omega (arith, c.ranges.disk)) (λ i. (c.type_inv.answer i).fits) in
-    record { value = p.0; out_after = p.1; upper_bound = omega (arith, p.0, m) }
+    let e : c.loop-k.k ≡ 9 = omega arith in
+    last a.to.now.bytes a.number a.disk a.answer.now c.loop-k.to.bytes (rw e at c.loop-k.invariant)
+
+pub returns-then-grant-eq0 : goal.returns-then-grant-eq0
+returns-then-grant-eq0 c =
+    let a = c.args in
+    let e : c.shown_at-grant.result.ticket ≡ (shown_at a.answer.now c.loop-k.k).ticket = ap (λ s. s.ticket) c.shown_at-grant.ensures in
+    no_more a.to.now.bytes a.number a.disk a.answer.now c.told-answer c.loop-k.to.bytes c.loop-k.k c.loop-k.invariant (omega arith)
+    (omega arith)
