@@ -6,7 +6,7 @@
 ghost use Rattle.std.specs.Prelude.{◌≡◌, [], ◌+◌, ◌*◌, ◌≤◌, ◌<◌, length};
 ghost use Rattle.num.specs.Runs.{splice};
 ghost use Rattle.answer.specs.declared.Answer.TheVariants.{Granted};
-ghost use Rattle.answer.specs.Answers.{number_of, shown_of, shown_bytes, item_bytes, answer_bytes, shown_at};
+ghost use Rattle.answer.specs.Answers.{number_of, code_of, shown_of, shown_bytes, item_bytes, answer_bytes, shown_at};
 
 use num::signed::{signed_at, to_word};
 use num::word::{put_word, word_at};
@@ -99,12 +99,15 @@ impl From<Answer> for Shown {
     }
 }
 
-// Makes the buffer an answer with no grant behind it.
-pub fn put_answer(out: &mut [u8; ANSWER_BYTES], a: Answer)
-    ensures { out.new ≡ answer_bytes a [] }
+// Makes the buffer an answer with no grant behind it; returns its code.
+pub fn put_answer(out: &mut [u8; ANSWER_BYTES], a: Answer) -> u32
+    ensures value { result ≡ code_of a }
+    ensures out_after { out.new ≡ answer_bytes a [] }
 {
+    let item = Shown::from(a);
     out.fill(0);
-    put_item(out, 0, Shown::from(a));
+    put_item(out, 0, item);
+    item.code
 }
 
 // Puts a grant of the pass into the buffer, the k-th behind the call's own answer.

@@ -28,7 +28,7 @@ use Rattle.part.specs.Held.{part_for, HoldsDisk}
 use Rattle.slots.specs.Slots.{Slots}
 use Rattle.change.specs.Holding.{Holds, NoteFits, numbered, with_figures, with_active, with_last, with_next, noted, raised_of}
 use Rattle.change.specs.HoldingLaws.{holds_decode, holds_disk, holds_part, active_slots, active_back, put_actives, put_figure}
-use Rattle.change.proofs.ChangeLaws.{grant_reading, grant_write}
+use Rattle.change.proofs.ChangeLaws.{raised_good, grant_place, grant_reading, grant_write}
 
 -- ---- the clock and the next ticket
 
@@ -82,9 +82,11 @@ module _ {s : List ℕ} {d : Disk} (h : Holds s d) (m total : ℕ) (l : total < 
 
 -- ---- the claim behind the active ones
 
-pub last_holds : {s : List ℕ} {d : Disk} → Holds s d → {n : ℕ} (c : Claim) → n < 8 → {row : List ℕ} → Slots row →
-    slots 8 row ≡ set (slots 8 (take 352 (drop 64 s))) n c → Holds (put_word (put_mid 64 352 s row) 8 (n + 1)) (with_last d n c)
-last_holds {s} {d} h {n} c l {row} back e =
+pub last_holds : {s : List ℕ} {d : Disk} → Holds s d → (c : Claim) → d.actives < 8 → {row : List ℕ} → Slots row →
+    slots 8 row ≡ set (slots 8 (take 352 (drop 64 s))) d.actives c →
+    Holds (put_word (put_mid 64 352 s row) 8 (d.actives + 1)) (with_last d d.actives c)
+last_holds {s} {d} h c l {row} back e =
+    let n = d.actives in
     subst
     (λ (cs : List Claim).
     Holds (put_word (put_mid 64 352 s row) 8 (n + 1)) (numbered (with_active d cs) d.clock d.next (n + 1) d.waitings))
@@ -114,18 +116,30 @@ module _ (d : Disk) (c : Claim) (good : Good d) (may : MayGrant disk_table (core
       omega (arith, e, may.in_limit, state_limit (figures_in d) (kind_of disk_table c) c.error sets_it, h.fits.state.limit)
 
   -- A reading is put behind the active claims, with what it is told and its total.
-  pub read_grants : is_reading (kind_at disk_table c.method) ≡ true → {n sum : ℕ} {z : ℤ} → n ≡ d.actives →
+  pub read_grants : is_reading (kind_at disk_table c.method) ≡ true → {sum : ℕ} {z : ℤ} →
       z ≡ told_by (figures_in d) (kind_of disk_table c) → sum ≡ total disk_table (core_in d) c → {s : List ℕ} →
-      Holds s (with_last d n (put_told c z sum)) → Grants s d c
-  read_grants r p q e h = grants d c h (rw (p, q, e) (grant_reading d c good may r))
+      Holds s (with_last d d.actives (put_told c z sum)) → Grants s d c
+  read_grants r q e h = grants d c h (rw (q, e) (grant_reading d c good may r))
 
-  -- A write raises, notes, and is put behind the active claims.
-  pub write_grants : is_reading (kind_at disk_table c.method) ≡ false → {n sum : ℕ} → n ≡ d.actives → sum ≡ total disk_table (core_in d) c →
-      {s t u : List ℕ} → Holds s (raised_of d c) → Holds t (noted (decode s) c.method sum) →
-      Holds u (with_last (decode t) n (put_told c (pos 0) 0)) → Grants u d c
-  write_grants r {n} {sum} p e {s} {t} {u} raises notes puts =
-      let second : Holds t (noted (raised_of d c) c.method sum) =
-      subst (λ (x : Disk). Holds t (noted x c.method sum)) (holds_decode raises) notes in
-      let third : Holds u (with_last (noted (raised_of d c) c.method sum) n (put_told c (pos 0) 0)) =
-      subst (λ (x : Disk). Holds u (with_last x n (put_told c (pos 0) 0))) (holds_decode second) puts in
-      grants d c third (rw (p, e) (grant_write d c good may r))
+  -- With the active claims raised, and with the total noted, the part holds a disk that still has a place.
+  module _ (sum : ℕ) {s t : List ℕ} (raises : Holds s (raised_of d c)) (notes : Holds t (noted (decode s) c.method sum)) where
+    noted_holds : Holds t (noted (raised_of d c) c.method sum)
+    noted_holds = subst (λ (x : Disk). Holds t (noted x c.method sum)) (holds_decode raises) notes
+
+    pub noted_disk : HoldsDisk t
+    noted_disk =
+        let g = raised_good d c good in
+        holds_disk noted_holds (record { active = g.active; waiting = g.waiting })
+
+    pub noted_place : (decode t).actives < 8
+    unfolding raised_of
+    noted_place = rw (holds_decode noted_holds) (grant_place d c good may)
+
+    -- A write raises, notes, and is put behind the active claims.
+    pub write_grants : is_reading (kind_at disk_table c.method) ≡ false → sum ≡ total disk_table (core_in d) c →
+        {u : List ℕ} → Holds u (with_last (decode t) (decode t).actives (put_told c (pos 0) 0)) → Grants u d c
+    unfolding raised_of
+    write_grants r e {u} puts =
+        grants d c
+        (subst (λ (x : Disk). Holds u (with_last x x.actives (put_told c (pos 0) 0))) (holds_decode noted_holds) puts)
+        (rw e (grant_write d c good may r))

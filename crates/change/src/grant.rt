@@ -25,14 +25,14 @@ use part::status::Status;
 use rules::method::{PROMISED, USED, is_reading, writes};
 use slots::{put_slot, raise_all};
 
-// Raises the n active claims for the grant of the write c.
-fn raise_on(s: &mut [u8; PART_BYTES], n: u32, c: Claim)
+// Raises the active claims for the grant of the write c.
+fn raise_on(s: &mut [u8; PART_BYTES], c: Claim)
     requires holds_disk { HoldsDisk s.old }
     requires may_grant { MayGrant disk_table (core_in (decode s.old)) c }
     requires method_value { is_reading (kind_at disk_table c.method) ≡ false }
-    requires n_value { n ≡ (decode s.old).actives }
     ensures { Holds s.new (raised_of (decode s.old) c) }
 {
+    let n = count_at(s, Status::Active);
     let raise = figures_at(s).raise_of(c);
     raise_all(&mut s[ACTIVE_AT..WAITING_AT], n as usize, c.method, raise);
 }
@@ -53,12 +53,13 @@ fn note(s: &mut [u8; PART_BYTES], m: u32, total: u32)
     }
 }
 
-// Puts the claim c behind the n active ones, with the sum that it is told and its amount.
-fn put_last(s: &mut [u8; PART_BYTES], n: u32, c: Claim, told: i32, amount: u32)
+// Puts the claim c behind the active ones, with the sum that it is told and its amount.
+fn put_last(s: &mut [u8; PART_BYTES], c: Claim, told: i32, amount: u32)
     requires holds_disk { HoldsDisk s.old }
-    requires n_bound { n < 8 }
-    ensures { Holds s.new (with_last (decode s.old) n (put_told c told amount)) }
+    requires actives_bound { (decode s.old).actives < 8 }
+    ensures { Holds s.new (with_last (decode s.old) (decode s.old).actives (put_told c told amount)) }
 {
+    let n = count_at(s, Status::Active);
     let row = &mut s[ACTIVE_AT..WAITING_AT];
     put_slot(row, n as usize, Claim { told, amount, ..c });
     put_word(s, ACTIVES_AT, n + 1);
@@ -73,14 +74,13 @@ pub fn grant(s: &mut [u8; PART_BYTES], c: Claim, told: i32, total: u32)
     ensures holds_disk_2 { HoldsDisk s.new }
     ensures disk_is { DiskIs (decode s.new) (grant_of (disk_of (decode s.old)) c) }
 {
-    let n = count_at(s, Status::Active);
     if is_reading(c.method) {
-        put_last(s, n, c, told, total);
+        put_last(s, c, told, total);
         return;
     }
-    raise_on(s, n, c);
+    raise_on(s, c);
     note(s, c.method, total);
-    put_last(s, n, c, 0, 0);
+    put_last(s, c, 0, 0);
 }
 
 // Puts the next ticket on a part that holds a disk.

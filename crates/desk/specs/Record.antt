@@ -11,7 +11,7 @@ use Rattle.answer.specs.declared.Refusal.{Refusal}
 use Rattle.answer.specs.declared.Refusal.TheVariants as R
 use Rattle.desk.specs.declared.record.Kind.{Kind}
 use Rattle.desk.specs.declared.record.Kind.TheVariants as K
-use Rattle.desk.specs.declared.record.Unknown.{Unknown}
+use Rattle.rules.specs.declared.method.Unknown.{Unknown}
 
 abbrev pub byte_at : List ℕ → ℕ → ℕ
 byte_at r i = get_or r i 0
@@ -64,6 +64,11 @@ RecordIn r (Err e) = (well_formed r ≡ false) × (e ≡ R.Record)
 -- The kinds by their numbers; any other number is none.
 abbrev pub kind_of : ℕ → Result Kind Unknown
 kind_of n = cond (eqb n 1) (Ok K.Open) (cond (eqb n 2) (Ok K.Claim) (cond (eqb n 3) (Ok K.Release) (Err (record {}))))
+
+abbrev pub number_of : Kind → ℕ
+number_of K.Open = 1
+number_of K.Claim = 2
+number_of K.Release = 3
 
 -- ---- the request
 

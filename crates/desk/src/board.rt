@@ -13,7 +13,7 @@ ghost use Rattle.desk.specs.Counts.{count_of, open_on};
 use crate::record::{
     DISK_AT, KIND_AT, Kind, NOW_AT, PROMISED_LIMIT_AT, RECORD_BYTES, USED_LIMIT_AT, record_in,
 };
-use crate::serve::{refuse, serve};
+use crate::serve::serve;
 use answer::{ANSWER_BYTES, Answer, Refusal, put_answer};
 use num::opened::{is_open, open_count, set_open};
 use num::word::word_at;
@@ -23,7 +23,7 @@ use rules::disk::{Disk, opened};
 use rules::fields::limits_fit;
 
 // A head, and behind it a part for each disk.
-const HEAD_BYTES: usize = 64;
+pub const HEAD_BYTES: usize = 64;
 
 const DISKS: usize = 64;
 
@@ -42,7 +42,7 @@ pub fn step(board: &mut [u8], r: &[u8], answer: &mut [u8]) -> u32
     };
     match call(board, r, answer) {
         Ok(code) => code,
-        Err(refusal) => refuse(answer, refusal),
+        Err(refusal) => put_answer(answer, Answer::Refused(refusal)),
     }
 }
 
@@ -117,8 +117,7 @@ fn open_on(
         return Err(Refusal::Field);
     }
     put_open(board, d, opened(word_at(r, NOW_AT), l0, l1));
-    put_answer(answer, Answer::Opened);
-    Ok(3)
+    Ok(put_answer(answer, Answer::Opened))
 }
 
 // The disk's part, and its open bit.

@@ -2,7 +2,7 @@
 
 ghost use Rattle.std.specs.Prelude.{◌≡◌};
 ghost use Rattle.law.specs.Types.{claim_of};
-ghost use Rattle.desk.specs.Record.{kind_of, well_formed, kind_fits, asked_in, laid_out, RecordIn};
+ghost use Rattle.desk.specs.Record.{kind_of, number_of, well_formed, kind_fits, asked_in, laid_out, RecordIn};
 
 use answer::Refusal;
 use law::Claim;
@@ -10,6 +10,7 @@ use law::limits::MOST_FLAG;
 use num::signed::signed_at;
 use num::word::{put_word, word_at};
 use part::whole::zero_between;
+use rules::method::Unknown;
 
 pub const RECORD_BYTES: usize = 24;
 
@@ -54,10 +55,6 @@ pub enum Kind {
     Release,
 }
 
-// The number of no kind.
-#[derive(Clone, Copy, PartialEq, Eq, Debug)]
-pub struct Unknown;
-
 impl TryFrom<u8> for Kind {
     type Error = Unknown;
 
@@ -69,6 +66,19 @@ impl TryFrom<u8> for Kind {
             2 => Ok(Kind::Claim),
             3 => Ok(Kind::Release),
             _ => Err(Unknown),
+        }
+    }
+}
+
+// The number of a kind.
+impl From<Kind> for u8 {
+    ghost from_gives = { λ k n. n ≡ number_of k };
+
+    fn from(k: Kind) -> u8 {
+        match k {
+            Kind::Open => 1,
+            Kind::Claim => 2,
+            Kind::Release => 3,
         }
     }
 }

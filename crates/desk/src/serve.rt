@@ -1,20 +1,18 @@
 // A call on the lent part of an open disk: 14, then the rules, then the part of the new disk. A refusal
 // writes nothing to the part.
 
-ghost use Rattle.std.specs.Prelude.{◌≡◌, []};
+ghost use Rattle.std.specs.Prelude.{◌≡◌};
 ghost use Rattle.law.specs.Calls.{claim as law_claim, release as law_release};
 ghost use Rattle.law.specs.DiskType.{disk_table};
 ghost use Rattle.rules.specs.Answers.{NewOn, request_of};
 ghost use Rattle.rules.specs.Totals.{totals_of};
 ghost use Rattle.part.specs.Held.{held, HoldsSound};
-ghost use Rattle.answer.specs.declared.Answer.TheVariants.{Refused};
-ghost use Rattle.answer.specs.Answers.{number_of, answer_bytes};
 ghost use Rattle.desk.specs.Record.{call_of};
 ghost use Rattle.desk.specs.Step.{settled, released, serve_of, stepped, written, Ends};
 
 use crate::find::find;
 use crate::record::{KIND_AT, Kind, NOW_AT, RECORD_BYTES, TICKET_AT, asked_in};
-use answer::{ANSWER_BYTES, Answer, Refusal, Shown, put_answer};
+use answer::{ANSWER_BYTES, Answer, Refusal, put_answer};
 use change::grant::grant_new;
 use change::moves::{end, leave, wait};
 use judge::judged;
@@ -27,15 +25,6 @@ use part::whole::decodes;
 use pass::pass;
 use rules::totals::Totals;
 use sound::is_sound;
-
-// Refuses: the number in the first item, all else zero.
-pub(crate) fn refuse(answer: &mut [u8; ANSWER_BYTES], r: Refusal) -> u32
-    ensures value { result ≡ number_of r }
-    ensures answer_after { answer.new ≡ answer_bytes (Refused r) [] }
-{
-    put_answer(answer, Answer::Refused(r));
-    u32::from(r)
-}
 
 // A claim or a release on the lent part of an open disk.
 #[tactic(auto, using(crate::proofs::ServeLaws::served), unfolding(crate::specs::Record::asked_in))]
@@ -80,8 +69,7 @@ fn serve_claim(
         Answer::Refused(r) => return Err(r),
         Answer::Released(_) | Answer::Opened => unreachable!(),
     }
-    put_answer(answer, a);
-    Ok(Shown::from(a).code)
+    Ok(put_answer(answer, a))
 }
 
 // A release on a sound part.
@@ -114,7 +102,7 @@ fn settle(part: &mut [u8; PART_BYTES], ticket: u32, answer: &mut [u8; ANSWER_BYT
     requires { HoldsSound part.old }
     ensures { stepped result part.new answer.new ≡ written (settled part.old (released (held part.old) ticket)) }
 {
-    put_answer(answer, Answer::Released(ticket));
+    let code = put_answer(answer, Answer::Released(ticket));
     pass(part, answer);
-    2
+    code
 }

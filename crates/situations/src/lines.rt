@@ -1,22 +1,15 @@
 // The lines of the output: the situation and what was asked, then code, ticket, told and amount.
 
-use crate::rows::Row;
-use answer::{ANSWER_BYTES, Shown, shown_at};
+use crate::rows::{Row, Situation};
+use answer::{ANSWER_BYTES, Answer, Shown, shown_at};
 use law::Claim;
 use std::{fmt, io};
 
-// Codes above this one are refusals.
-const OPENED: u32 = 3;
-
-// The number of a situation: 0 is the printed run.
-#[derive(Clone, Copy)]
-pub struct Situation(pub u32);
-
 impl fmt::Display for Situation {
     fn fmt<W: fmt::Write>(&self, f: &mut fmt::Formatter<W>) -> fmt::Result {
-        match self.0 {
-            0 => write!(f, "run"),
-            n => write!(f, "K{n}"),
+        match *self {
+            Situation::Run => write!(f, "run"),
+            Situation::K(n) => write!(f, "K{n}"),
         }
     }
 }
@@ -27,7 +20,7 @@ impl fmt::Display for Row {
             Row::Open(..) => write!(f, "open"),
             Row::Claim(..) => write!(f, "claim"),
             Row::Release(..) => write!(f, "release"),
-            Row::Show(..) => write!(f, "shows"),
+            Row::Show(ticket) => write!(f, "shows {ticket}"),
         }
     }
 }
@@ -45,7 +38,8 @@ pub(crate) fn print_answer(
         told,
         amount,
     } = shown_at(answer, 0);
-    if OPENED < code {
+    // The codes of refusals come after all others, of which opened is the last.
+    if Shown::from(Answer::Opened).code < code {
         return println!(rt; "{situation} {row} refused {code}");
     }
     println!(rt; "{situation} {row} {code} {ticket} {told} {amount}")?;
@@ -69,13 +63,13 @@ fn print_grant(rt: &impl Print, situation: Situation, item: Shown) -> io::Result
     println!(rt; "{situation} + {code} {ticket} {told} {amount}")
 }
 
-// Prints the told sum and the amount of an active claim.
-pub(crate) fn print_shown(rt: &impl Print, situation: Situation, c: Claim) -> io::Result<()> {
-    let Claim {
-        ticket,
-        told,
-        amount,
-        ..
-    } = c;
-    println!(rt; "{situation} shows {ticket} {told} {amount}")
+// Prints the told sum and the amount of the active claim that a row asks for.
+pub(crate) fn print_shown(
+    rt: &impl Print,
+    situation: Situation,
+    row: Row,
+    c: Claim,
+) -> io::Result<()> {
+    let Claim { told, amount, .. } = c;
+    println!(rt; "{situation} {row} {told} {amount}")
 }

@@ -10,16 +10,14 @@ mod rows;
 ghost use Rattle.std.specs.Prelude.{◌≡◌};
 ghost use Rattle.situations.specs.Rows.{after_row};
 
-use crate::lines::{Situation, print_answer, print_shown};
+use crate::lines::{print_answer, print_shown};
 use crate::record::record_of;
-use crate::rows::{DISK, ROWS, Row};
+use crate::rows::{DISK, ROWS, Row, Situation};
 use answer::ANSWER_BYTES;
-use desk::board::{BOARD_BYTES, step};
+use desk::board::{BOARD_BYTES, HEAD_BYTES, step};
 use part::layout::{ACTIVE_AT, PART_BYTES, SLOT_BYTES};
 use part::read::claim_at;
 use std::io;
-
-const HEAD_BYTES: usize = 64;
 
 // Where the slots of the disk's active claims begin.
 const SLOTS_FROM: usize = HEAD_BYTES + PART_BYTES * DISK as usize + ACTIVE_AT;
@@ -27,11 +25,11 @@ const SLOTS_FROM: usize = HEAD_BYTES + PART_BYTES * DISK as usize + ACTIVE_AT;
 // Each open begins a situation on an empty board.
 fn main(rt: HostRuntime) -> io::Result<()> {
     let mut board = [0; BOARD_BYTES];
-    let mut situation = Situation(0);
+    let mut situation = Situation::Run;
     for row in ROWS.iter() {
-        if let Row::Open(number, ..) = *row {
+        if let Row::Open(begun, ..) = *row {
             board.fill(0);
-            situation = Situation(number);
+            situation = begun;
         }
         turn(&rt, &mut board, situation, *row)?;
     }
@@ -49,7 +47,7 @@ fn turn(
     ensures { board.new ≡ after_row board.old row }
 {
     if let Row::Show(ticket) = row {
-        return show(rt, board, situation, ticket);
+        return show(rt, board, situation, row, ticket);
     }
     let Some(record) = record_of(row) else {
         return Ok(());
@@ -64,12 +62,13 @@ fn show(
     rt: &impl Print,
     board: &[u8; BOARD_BYTES],
     situation: Situation,
+    row: Row,
     ticket: u32,
 ) -> io::Result<()> {
     for i in 0..8 {
         let c = claim_at(board, SLOTS_FROM + SLOT_BYTES * i);
         if c.ticket == ticket {
-            print_shown(rt, situation, c)?;
+            print_shown(rt, situation, row, c)?;
         }
     }
     Ok(())

@@ -1,12 +1,20 @@
 // The requests, in a table: 01's situations K1 to K13, each under its words, and the printed run.
 
 use crate::rows::Row::{Claim, Open, Release, Show};
+use crate::rows::Situation::{K, Run};
+
+// One of K1 to K13, or the printed run.
+#[derive(Clone, Copy)]
+pub enum Situation {
+    K(u32),
+    Run,
+}
 
 // What a row asks. Each open begins a situation on an empty board.
 #[derive(Clone, Copy)]
 pub enum Row {
-    // The situation's number (0: the printed run), now, limit of used, limit of promised.
-    Open(u32, u32, u32, u32),
+    // The situation, now, limit of used, limit of promised.
+    Open(Situation, u32, u32, u32),
     // The disk, now, method, priority, fresh flag, second of measuring, value, own error or stated limit.
     Claim(u8, u32, u8, u8, u8, u32, i32, u32),
     // Now, ticket.
@@ -34,86 +42,86 @@ const READ_LOAD: u8 = 5;
 pub static ROWS: [Row; 87] = [
     // K1 (000's Speed example, in tenths) used limit 10, ReportUsed 100 active: ReportUsed 106, own error 3: granted,
     // amount 9.
-    Open(1, 0, 10, 1000),
+    Open(K(1), 0, 10, 1000),
     Claim(DISK, 0, REPORT_USED, 5, 0, 0, 100, 0),
     Claim(DISK, 0, REPORT_USED, 5, 0, 0, 106, 3),
     // K2 the same with 107: granted, 10.
-    Open(2, 0, 10, 1000),
+    Open(K(2), 0, 10, 1000),
     Claim(DISK, 0, REPORT_USED, 5, 0, 0, 100, 0),
     Claim(DISK, 0, REPORT_USED, 5, 0, 0, 107, 3),
     // K3 the same with 108: waits.
-    Open(3, 0, 10, 1000),
+    Open(K(3), 0, 10, 1000),
     Claim(DISK, 0, REPORT_USED, 5, 0, 0, 100, 0),
     Claim(DISK, 0, REPORT_USED, 5, 0, 0, 108, 3),
     // K4 limit 10, nothing active: own error 10 granted;
-    Open(4, 0, 10, 1000),
+    Open(K(4), 0, 10, 1000),
     Claim(DISK, 0, REPORT_USED, 5, 0, 0, 100, 10),
     // 11 refused 18.
-    Open(4, 0, 10, 1000),
+    Open(K(4), 0, 10, 1000),
     Claim(DISK, 0, REPORT_USED, 5, 0, 0, 100, 11),
     // K5 AddPromised 300 active: AddPromised -300 granted, amount 0.
-    Open(5, 0, 1000, 1000),
+    Open(K(5), 0, 1000, 1000),
     Claim(DISK, 0, ADD_PROMISED, 5, 0, 0, 300, 0),
     Claim(DISK, 0, ADD_PROMISED, 5, 0, 0, -300, 0),
     // K6 SetPromised waits.
-    Open(6, 0, 1000, 1000),
+    Open(K(6), 0, 1000, 1000),
     Claim(DISK, 0, ADD_PROMISED, 5, 0, 0, 300, 0),
     Claim(DISK, 0, SET_PROMISED, 5, 0, 0, 300, 0),
     // K7 ReadLoad active, limit 500, amount 0: AddPromised 500 granted, the reading's amount 500;
-    Open(7, 0, 1000, 1000),
+    Open(K(7), 0, 1000, 1000),
     Claim(DISK, 0, READ_LOAD, 5, 0, 0, 0, 500),
     Claim(DISK, 0, ADD_PROMISED, 5, 0, 0, 500, 0),
     Show(1),
     // with own error 1, waits.
-    Open(7, 0, 1000, 1000),
+    Open(K(7), 0, 1000, 1000),
     Claim(DISK, 0, READ_LOAD, 5, 0, 0, 0, 500),
     Claim(DISK, 0, ADD_PROMISED, 5, 0, 0, 500, 1),
     Show(1),
     // K8 instead AddPromised -500: granted, the reading's amount 500.
-    Open(8, 0, 1000, 1000),
+    Open(K(8), 0, 1000, 1000),
     Claim(DISK, 0, READ_LOAD, 5, 0, 0, 0, 500),
     Claim(DISK, 0, ADD_PROMISED, 5, 0, 0, -500, 0),
     Show(1),
     // K9 used stamped 100, nothing active: fresh ReadUsed at 399 granted,
-    Open(9, 0, 1000, 1000),
+    Open(K(9), 0, 1000, 1000),
     Claim(DISK, 120, REPORT_USED, 5, 0, 100, 40, 0),
     Release(130, 1),
     Claim(DISK, 399, READ_USED, 5, 1, 0, 0, 0),
     // at 400 waits.
-    Open(9, 0, 1000, 1000),
+    Open(K(9), 0, 1000, 1000),
     Claim(DISK, 120, REPORT_USED, 5, 0, 100, 40, 0),
     Release(130, 1),
     Claim(DISK, 400, READ_USED, 5, 1, 0, 0, 0),
     // K10 promised 999,999,999, nothing active: AddPromised 1 granted;
-    Open(10, 0, 1000, 1000),
+    Open(K(10), 0, 1000, 1000),
     Claim(DISK, 0, SET_PROMISED, 5, 0, 0, 999999999, 0),
     Release(0, 1),
     Claim(DISK, 0, ADD_PROMISED, 5, 0, 0, 1, 0),
     // 2 waits.
-    Open(10, 0, 1000, 1000),
+    Open(K(10), 0, 1000, 1000),
     Claim(DISK, 0, SET_PROMISED, 5, 0, 0, 999999999, 0),
     Release(0, 1),
     Claim(DISK, 0, ADD_PROMISED, 5, 0, 0, 2, 0),
     // K11 used amount 5: ReadUsed, limit 4, waits; ReportUsed of lower priority is granted; its release grants the
     // reading, amount 0.
-    Open(11, 0, 1000, 1000),
+    Open(K(11), 0, 1000, 1000),
     Claim(DISK, 0, REPORT_USED, 5, 0, 0, 40, 5),
     Release(0, 1),
     Claim(DISK, 0, READ_USED, 5, 0, 0, 0, 4),
     Claim(DISK, 0, REPORT_USED, 4, 0, 0, 50, 0),
     Release(0, 3),
     // K12 AddPromised active, SetPromised waits at priority 7: AddPromised at 7 waits,
-    Open(12, 0, 1000, 1000),
+    Open(K(12), 0, 1000, 1000),
     Claim(DISK, 0, ADD_PROMISED, 5, 0, 0, 300, 0),
     Claim(DISK, 0, SET_PROMISED, 7, 0, 0, 300, 0),
     Claim(DISK, 0, ADD_PROMISED, 7, 0, 0, 1, 0),
     // at 8 is granted.
-    Open(12, 0, 1000, 1000),
+    Open(K(12), 0, 1000, 1000),
     Claim(DISK, 0, ADD_PROMISED, 5, 0, 0, 300, 0),
     Claim(DISK, 0, SET_PROMISED, 7, 0, 0, 300, 0),
     Claim(DISK, 0, ADD_PROMISED, 8, 0, 0, 1, 0),
     // K13 eight ReadUsed active:
-    Open(13, 0, 1000, 1000),
+    Open(K(13), 0, 1000, 1000),
     Claim(DISK, 0, READ_USED, 5, 0, 0, 0, 0),
     Claim(DISK, 0, READ_USED, 5, 0, 0, 0, 0),
     Claim(DISK, 0, READ_USED, 5, 0, 0, 0, 0),
@@ -138,7 +146,7 @@ pub static ROWS: [Row; 87] = [
     // The printed run: open at 100, limits 1,000 and 500; ReportUsed 40,000 own 20 measured 100 at 100; ReadUsed limit
     // 50,000 at 101; ReportUsed 40,600 own 0 measured 102 at 102; release 2 at 103; release 9 at 104; ReadUsed limit 0
     // at 99. All of priority 5, no fresh flag.
-    Open(0, 100, 1000, 500),
+    Open(Run, 100, 1000, 500),
     Claim(DISK, 100, REPORT_USED, 5, 0, 100, 40000, 20),
     Claim(DISK, 101, READ_USED, 5, 0, 0, 0, 50000),
     Claim(DISK, 102, REPORT_USED, 5, 0, 102, 40600, 0),

@@ -8,17 +8,18 @@ use answer::{ANSWER_BYTES, Shown, shown_at};
 use arrayvec::ArrayString;
 use itoa::Buffer;
 
-// Nine lines of at most 72 bytes.
-pub(crate) const TEXT_BYTES: usize = 9 * 72;
+// Room for the lines of the 256 records of a run, and of a short last piece: nine lines of at most 72 bytes each.
+pub(crate) const LINES_BYTES: usize = 257 * 9 * 72;
 
-// Text in memory of a fixed size, with no heap.
-pub(crate) type Text = ArrayString<TEXT_BYTES>;
+// The lines of a run, in memory of a fixed size, with no heap.
+pub(crate) type Lines = ArrayString<LINES_BYTES>;
 
 // Adds all lines of one record: that of the call's own answer, then one for each grant of its pass. Items 1 to 8 show the grants; one
 // with no ticket shows none, and ends them.
-pub(crate) fn put_lines(to: &mut Text, number: u64, disk: u8, answer: &[u8; ANSWER_BYTES])
-    requires { length to.old.bytes + 648 ≤ TEXT_BYTES }
-    ensures { to.new.bytes ≡ to.old.bytes ++ lines_of number disk answer.now }
+pub(crate) fn put_lines(to: &mut Lines, number: u64, disk: u8, answer: &[u8; ANSWER_BYTES])
+    requires { length to.old.bytes + 648 ≤ LINES_BYTES }
+    ensures after { to.new.bytes ≡ to.old.bytes ++ lines_of number disk answer.now }
+    ensures upper_bound { length to.new.bytes ≤ length to.old.bytes + 648 }
 {
     put_line(to, number, disk, shown_at(answer, 0));
     for k in 1..9 {
@@ -32,8 +33,8 @@ pub(crate) fn put_lines(to: &mut Text, number: u64, disk: u8, answer: &[u8; ANSW
 }
 
 // Adds a line with what an item of the answer buffer shows.
-fn put_line(to: &mut Text, number: u64, disk: u8, item: Shown)
-    requires { length to.old.bytes + 71 ≤ TEXT_BYTES }
+fn put_line(to: &mut Lines, number: u64, disk: u8, item: Shown)
+    requires { length to.old.bytes + 71 ≤ LINES_BYTES }
     ensures after { to.new.bytes ≡ to.old.bytes ++ (decimal number ++ (next disk ++ figures item.code item.ticket item.told item.amount)) }
     ensures upper_bound { length to.new.bytes ≤ length to.old.bytes + 71 }
 {

@@ -4,13 +4,14 @@
 
 mod lines;
 
-ghost use Rattle.std.specs.Prelude.{◌≡◌, [], ◌+◌, ◌-◌, ◌*◌, ◌^◌, ◌≤◌, ◌<◌, length, take, IfSome, MatchOption};
+ghost use Rattle.std.specs.Prelude.{◌≡◌, [], ◌++◌, ◌+◌, ◌-◌, ◌*◌, ◌^◌, ◌≤◌, ◌<◌, length, IfSome, MatchOption};
 ghost use Rattle.num.specs.Runs.{splice};
 ghost use Rattle.records.specs.Pieces.{span, bytes_of};
+ghost use Rattle.stopblocker.specs.declared.TheConstants.{RUN_BYTES};
 ghost use Rattle.stopblocker.specs.Answering.{called, shown_disk, answer_lines, due_at, reached, answered_run};
 
-use crate::lines::{TEXT_BYTES, Text, put_lines};
-use answer::ANSWER_BYTES;
+use crate::lines::{LINES_BYTES, Lines, put_lines};
+use answer::{ANSWER_BYTES, Refusal};
 use desk::board::{BOARD_BYTES, step};
 use records::{Piece, piece_in};
 use std::io::{Read, Write};
@@ -18,16 +19,16 @@ use std::io::{Read, Write};
 // 256 records of 24 bytes.
 const RUN_BYTES: usize = 256 * 24;
 
-// Room for the lines of each record of a run, and of a short last piece.
-const LINES_BYTES: usize = 257 * TEXT_BYTES;
-
 // At most this many bytes and one run are read, so that a record's number fits its 64 bits.
 const MOST_BYTES: u64 = u64::MAX - RUN_BYTES as u64;
 
 fn main(rt: HostRuntime) {
     let mut board = [0; BOARD_BYTES];
-    let mut run = [0; RUN_BYTES];
-    let mut lines = [0; LINES_BYTES];
+    let mut run = Run {
+        bytes: [0; RUN_BYTES],
+        have: 0,
+    };
+    let mut lines = Lines::new();
     answer_input(
         &mut rt.stdin(),
         &mut rt.stdout(),
@@ -42,29 +43,55 @@ fn answer_input(
     input: &mut impl Read,
     output: &mut impl Write,
     board: &mut [u8; BOARD_BYTES],
-    run: &mut [u8; RUN_BYTES],
-    lines: &mut [u8; LINES_BYTES],
+    run: &mut Run,
+    lines: &mut Lines,
 ) {
     let mut taken: u64 = 0;
     let mut number: u64 = 0;
-    let mut have: usize = 0;
+    run.have = 0;
     while taken < MOST_BYTES {
-        let Some(t) = turn(input, output, board, run, have, number, lines) else {
+        let Some(t) = turn(input, output, board, run, number, lines) else {
             return;
         };
         taken += t.got as u64;
         number = t.number;
-        have = t.have;
     }
 }
 
-// A turn that more may follow: how many bytes it read, the number of the last record answered, and how many bytes of a cut record are
-// at the front of the run.
+// The input of a turn. The first `have` bytes are those of a record that was cut at the end of the turn before.
+#[derive(Drop)]
+struct Run {
+    bytes: [u8; RUN_BYTES],
+    have: usize,
+    ghost fits: { have ≤ RUN_BYTES },
+}
+
+impl Run {
+    // Reads input behind the bytes of the cut record; returns how many bytes came, 0 at the end of the input.
+    fn read_behind(&mut self, input: &mut impl Read) -> usize
+        ensures have_kept { self.new.have ≡ self.old.have }
+        ensures got_in_bounds { self.new.have + result ≤ RUN_BYTES }
+    {
+        input.read(&mut self.bytes[self.have..]).unwrap_or(0)
+    }
+
+    // Moves the bytes from `at` up to `end` to the front, as those of the next cut record.
+    fn carry(&mut self, at: usize, end: usize)
+        requires at_le_end { at ≤ end }
+        requires end_in_bounds { end ≤ RUN_BYTES }
+        ensures have_after { self.new.have ≡ end - at }
+        ensures bytes_after { self.new.bytes ≡ splice self.old.bytes 0 (bytes_of self.old.bytes (span at end)) }
+    {
+        self.bytes.copy_within(at..end, 0);
+        self.have = end - at;
+    }
+}
+
+// A turn that more may follow: how many bytes it read, and the number of the last record answered.
 #[derive(Clone, Copy)]
 struct Turned {
     got: usize,
     number: u64,
-    have: usize,
 }
 
 // Reads input behind the bytes of a cut record, answers the records, writes their lines, and keeps the bytes of the next cut record.
@@ -73,65 +100,61 @@ fn turn(
     input: &mut impl Read,
     output: &mut impl Write,
     board: &mut [u8; BOARD_BYTES],
-    run: &mut [u8; RUN_BYTES],
-    have: usize,
+    run: &mut Run,
     number: u64,
-    lines: &mut [u8; LINES_BYTES],
+    lines: &mut Lines,
 ) -> Option<Turned>
-    requires run_bound { number + length run.old < 2 ^ 64 }
-    requires have_in_bounds { have ≤ length run.old }
+    requires run_bound { number + RUN_BYTES < 2 ^ 64 }
     ensures got_above { IfSome result (λ t. 0 < t.got) }
-    ensures got_in_bounds { IfSome result (λ t. t.got ≤ length run.old) }
-    ensures have_in_bounds_2 { IfSome result (λ t. t.have ≤ length run.old) }
-    ensures have_bound { IfSome result (λ t. t.number + t.have ≤ number + have + t.got) }
+    ensures got_in_bounds { IfSome result (λ t. t.got ≤ RUN_BYTES) }
+    ensures have_bound { IfSome result (λ t. t.number + run.new.have ≤ number + run.old.have + t.got) }
 {
-    let got = read_behind(input, run, have);
+    let got = run.read_behind(input);
     let last = got == 0;
-    let end = have + got;
-    let a = answer_run(board, &run[..end], number, last, lines);
-    let written = output.write_all(&lines[..a.length]);
+    let end = run.have + got;
+    let a = answer_run(board, &run.bytes[..end], number, last, lines);
+    let written = output.write_all(lines.as_bytes());
     if last || written.is_err() {
         return None;
     }
+    run.carry(a.at, end);
     Some(Turned {
         got,
         number: a.number,
-        have: carry(run, a.at, end),
     })
 }
 
-// How far a run has been answered: the length of the lines, the number of the last record, and the place behind it.
+// How far a run has been answered: the number of the last record, and the place behind it.
 #[derive(Clone, Copy)]
 struct Answered {
-    length: usize,
     number: u64,
     at: usize,
 }
 
-// Answers the pieces of a run that are due, with one call of the desk each, and puts their lines one behind the other.
+// Answers the pieces of a run that are due, with one call of the desk each; their lines, one behind the other, are all that `lines`
+// then holds.
 fn answer_run(
     board: &mut [u8; BOARD_BYTES],
     run: &[u8],
     from: u64,
     last: bool,
-    lines: &mut [u8; LINES_BYTES],
+    lines: &mut Lines,
 ) -> Answered
-    requires run_in_bounds { 27 * length run.now + 648 ≤ length lines.old }
+    requires run_in_bounds { 27 * length run.now + 648 ≤ LINES_BYTES }
     requires run_bound { from + length run.now < 2 ^ 64 }
-    ensures at_after { reached board.new (take result.length lines.new) result.number result.at ≡ answered_run board.old run.now from last }
-    ensures length_in_bounds { result.length ≤ length lines.old }
+    ensures at_after { reached board.new lines.new.bytes result.number result.at ≡ answered_run board.old run.now from last }
     ensures at_in_bounds { result.at ≤ length run.now }
     ensures number_bound { result.number ≤ from + result.at }
 {
-    let mut length: usize = 0;
+    lines.clear();
     let mut number = from;
     let mut at: usize = 0;
     while let Some(to) = due(run, at, last) {
         number += 1;
-        length = answer_piece(board, &run[at..to], number, lines, length);
+        answer_piece(board, &run[at..to], number, lines);
         at = to;
     }
-    Answered { length, number, at }
+    Answered { number, at }
 }
 
 // Where the piece at `at` ends, if it is due. A short piece is due only if no more bytes come.
@@ -145,27 +168,17 @@ fn due(run: &[u8], at: usize, last: bool) -> Option<usize>
     }
 }
 
-// One call of the desk, and its lines.
-fn answer_piece(
-    board: &mut [u8; BOARD_BYTES],
-    r: &[u8],
-    number: u64,
-    lines: &mut [u8; LINES_BYTES],
-    at: usize,
-) -> usize
-    requires { at + 648 ≤ length lines.old }
+// One call of the desk; adds its lines.
+#[tactic(auto, unfolding(crate::specs::Answering::answer_lines))]
+fn answer_piece(board: &mut [u8; BOARD_BYTES], r: &[u8], number: u64, lines: &mut Lines)
+    requires { length lines.old.bytes + 648 ≤ LINES_BYTES }
     ensures board_after { board.new ≡ (called board.old r.now).bytes }
-    ensures value { result ≡ at + length (answer_lines board.old r.now number) }
-    ensures lines_after { lines.new ≡ splice lines.old at (answer_lines board.old r.now number) }
-    ensures upper_bound { result ≤ at + 648 }
+    ensures lines_after { lines.new.bytes ≡ lines.old.bytes ++ answer_lines board.old r.now number }
+    ensures upper_bound { length lines.new.bytes ≤ length lines.old.bytes + 648 }
 {
     let mut answer = [0; ANSWER_BYTES];
     let code = step(board, r, &mut answer);
-    let mut text = Text::new();
-    put_lines(&mut text, number, disk_shown(r, code), &answer);
-    let end = at + text.len();
-    lines[at..end].copy_from_slice(text.as_bytes());
-    end
+    put_lines(lines, number, disk_shown(r, code), &answer);
 }
 
 // The disk to show: byte 3 of the record, or 0 if it was refused 10.
@@ -173,27 +186,8 @@ fn answer_piece(
 fn disk_shown(r: &[u8], code: u32) -> u8
     ensures { result ≡ shown_disk code r.now }
 {
-    if code == 10 {
+    if code == u32::from(Refusal::Record) {
         return 0;
     }
     r.get(3).copied().unwrap_or(0)
-}
-
-// Reads input behind the first `have` bytes; returns how many bytes came, 0 at the end of the input.
-fn read_behind(input: &mut impl Read, run: &mut [u8; RUN_BYTES], have: usize) -> usize
-    requires { have ≤ length run.old }
-    ensures { have + result ≤ length run.old }
-{
-    input.read(&mut run[have..]).unwrap_or(0)
-}
-
-// Moves the bytes from `at` up to `end` to the front; returns how many they are.
-fn carry(run: &mut [u8; RUN_BYTES], at: usize, end: usize) -> usize
-    requires at_le_end { at ≤ end }
-    requires end_in_bounds { end ≤ length run.old }
-    ensures value { result ≡ end - at }
-    ensures run_after { run.new ≡ splice run.old 0 (bytes_of run.old (span at end)) }
-{
-    run.copy_within(at..end, 0);
-    end - at
 }

@@ -9,15 +9,15 @@ overflow_add-number c = let d = c.in-Some.ensures in omega (arith, c.loop-to.inv
 pub slice_bounds-answer_piece-end : goal.slice_bounds-answer_piece-end
 slice_bounds-answer_piece-end c = inside c.loop-to.invariant c.in-Some.ensures.1
 
-pub answer_piece-length-requires : goal.answer_piece-length-requires
-answer_piece-length-requires c = let d = c.in-Some.ensures in free c.loop-to.invariant d.1 d.0 (omega arith)
+pub answer_piece-requires : goal.answer_piece-requires
+answer_piece-requires c = let d = c.in-Some.ensures in free c.loop-to.invariant d.1 d.0 (omega arith)
 
 pub loop-to-preserved : goal.loop-to-preserved
 loop-to-preserved c =
     let d = c.in-Some.ensures in
-    let w = c.answer_piece-length in
-    again c.loop-to.invariant d.1 w.new.board w.new.lines w.result d.0 (omega arith) w.array_long w.array_long2
-    w.ensures.board_after w.ensures.value w.ensures.lines_after w.ensures.upper_bound
+    let w = c.answer_piece in
+    again c.loop-to.invariant d.1 w.new.board w.new.lines.bytes d.0
+    w.ensures.board_after w.ensures.lines_after w.ensures.upper_bound
 
 pub returns-clause-at_after : goal.returns-clause-at_after
 returns-clause-at_after c = done c.loop-to.invariant c.in_default.ensures

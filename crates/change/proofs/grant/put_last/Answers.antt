@@ -10,6 +10,6 @@ put_slot-requires-clause-slots c = active_lent (disk_holds c.requires.holds_disk
 pub returns : goal.returns
 returns c =
     let value : FitsSigned w32 c.args.c.value = search rules in
-    rw c.put_word.ensures
-    (last_holds (disk_holds c.requires.holds_disk c.fits-s) _ c.requires.n_bound c.put_slot.ensures.slots_2
-    (rw (to_z-of_z value, to_z-of_z c.ranges.told) at c.put_slot.ensures.row_after))
+    rw (c.put_word.ensures, c.count_at-n.ensures)
+    (last_holds (disk_holds c.requires.holds_disk c.fits-s) _ c.requires.actives_bound c.put_slot.ensures.slots_2
+    (rw (c.count_at-n.ensures, to_z-of_z value, to_z-of_z c.ranges.told) at c.put_slot.ensures.row_after))

@@ -12,12 +12,12 @@ raise_all-requires-clause-slots c = active_lent (disk_holds c.requires.holds_dis
 
 pub raise_all-requires-clause-n_bound : goal.raise_all-requires-clause-n_bound
 raise_all-requires-clause-n_bound c =
-    omega (arith, c.requires.n_value, (disk_good c.requires.holds_disk).active.few)
+    omega (arith, c.count_at-n.ensures, (disk_good c.requires.holds_disk).active.few)
 
 pub raise_all-requires-clause-raisable : goal.raise_all-requires-clause-raisable
 raise_all-requires-clause-raisable c =
     let z = c.requires in
-    raisable (decode c.args.s.now) c.args.c (disk_good z.holds_disk) z.may_grant z.method_value c.figures_at.ensures z.n_value
+    raisable (decode c.args.s.now) c.args.c (disk_good z.holds_disk) z.may_grant z.method_value c.figures_at.ensures c.count_at-n.ensures
     c.raise_of-raise.ensures.value (active_slots (disk_holds z.holds_disk c.fits-s))
 
 pub returns : goal.returns
@@ -25,6 +25,6 @@ returns c =
     let z = c.requires in
     let whole = disk_holds z.holds_disk c.fits-s in
     subst (Holds _)
-    (raises (decode c.args.s.now) c.args.c z.method_value c.figures_at.ensures z.n_value c.raise_of-raise.ensures.value
+    (raises (decode c.args.s.now) c.args.c z.method_value c.figures_at.ensures c.count_at-n.ensures c.raise_of-raise.ensures.value
     (active_slots whole) c.raise_all.ensures.row_after)
     (active_back whole c.raise_all.ensures.slots_2)

@@ -18,14 +18,14 @@ loop-k-preserved c =
     again a.to.now.bytes a.number a.disk a.answer.now c.told-answer c.loop-k.to.bytes c.loop-k.k c.loop-k.invariant (omega arith)
     (omega arith) w.new.to.bytes (rw (w.ensures.after, c.push_str.ensures.bytes, c.shown_at-grant.ensures)) (omega arith)
 
-pub returns-after-loop-k : goal.returns-after-loop-k
-returns-after-loop-k c =
+pub returns-after-loop-k-clause-after : goal.returns-after-loop-k-clause-after
+returns-after-loop-k-clause-after c =
     let a = c.args in
     let e : c.loop-k.k ≡ 9 = omega arith in
     last a.to.now.bytes a.number a.disk a.answer.now c.loop-k.to.bytes (rw e at c.loop-k.invariant)
 
-pub returns-then-grant-eq0 : goal.returns-then-grant-eq0
-returns-then-grant-eq0 c =
+pub returns-then-grant-eq0-clause-after : goal.returns-then-grant-eq0-clause-after
+returns-then-grant-eq0-clause-after c =
     let a = c.args in
     let e : c.shown_at-grant.result.ticket ≡ (shown_at a.answer.now c.loop-k.k).ticket = ap (λ s. s.ticket) c.shown_at-grant.ensures in
     no_more a.to.now.bytes a.number a.disk a.answer.now c.told-answer c.loop-k.to.bytes c.loop-k.k c.loop-k.invariant (omega arith)

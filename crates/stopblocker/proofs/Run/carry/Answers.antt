@@ -3,7 +3,7 @@ use Rattle.std.proofs.Common.{ℕ, ◌+◌, ◌-◌, ◌≤◌, List, ◌++◌, 
 use Rattle.std.specs.List.{copy_within}
 use Rattle.num.specs.Runs.{splice}
 use Rattle.num.specs.RunLaws.{splice_eq}
-use Rattle.stopblocker.proofs.carry.Goals as goal
+use Rattle.stopblocker.proofs.Run.carry.Goals as goal
 
 moved : (l : List ℕ) (at end : ℕ) → at ≤ end → end ≤ length l →
     copy_within l at end 0 ≡ splice l 0 (take (end - at) (drop at l))
@@ -13,6 +13,6 @@ moved l at end h k =
     length-take-le (end - at) (drop at l) (omega (arith, length-drop at l)) in
     ap (λ n. piece ++ drop (0 + n) l) (sym size) ∙ sym (splice_eq l 0 piece (omega arith))
 
-pub returns-clause-run_after : goal.returns-clause-run_after
-returns-clause-run_after c =
-    c.copy_within.ensures.after ∙ moved c.args.run.now c.args.at c.args.end c.requires.at_le_end c.requires.end_in_bounds
+pub returns-clause-bytes_after : goal.returns-clause-bytes_after
+returns-clause-bytes_after c =
+    c.copy_within.ensures.after ∙ moved c.args.self.now.bytes c.args.at c.args.end c.requires.at_le_end (omega arith)
