@@ -16,6 +16,7 @@ use Rattle.law.specs.DiskType.{disk_table}
 use Rattle.rules.specs.declared.method.Method.{Method}
 use Rattle.rules.specs.declared.method.Method.TheVariants as M
 use Rattle.rules.specs.declared.method.Unknown.{Unknown}
+use Rattle.rules.specs.Masks.{masks_by, masks_of}
 use Rattle.rules.specs.Methods.{method_of, sets_by, adds_by, reads_by, writes_by, set_mask, add_mask, read_mask, write_mask, written_by}
 
 -- ---- by method
@@ -58,6 +59,12 @@ kind_is =
 -- So it is by what the number was found to be.
 pub kind_by : (m : ℕ) {r : Result Method Unknown} → r ≡ method_of m → kind_at disk_table m ≡ kind_found r
 kind_by m e = kind_is m ∙ ap kind_found (sym e)
+
+-- And so are its masks.
+pub masks_found : (m : ℕ) {r : Result Method Unknown} → r ≡ method_of m →
+    masks_of m ≡ masks_by (sets_by (kind_found r)) (adds_by (kind_found r)) (reads_by (kind_found r))
+unfolding masks_of set_mask add_mask read_mask
+masks_found m e = rw (kind_by m e)
 
 -- What a method writes is what it sets and what it adds to.
 write_by : (k : Kind) → bit_or (sets_by k) (adds_by k) ≡ writes_by k

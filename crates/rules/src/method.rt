@@ -1,5 +1,5 @@
-// The methods of a disk. No other file knows their numbers: this one says of each method what it sets, adds to and reads, as masks
-// with one bit for each attribute, and its row in the compatibility table.
+// The methods of a disk. No other file of the desk knows their numbers: this one says of each method what it sets, adds to and reads,
+// as masks with one bit for each attribute, and its row in the compatibility table.
 
 ghost use Rattle.std.specs.Prelude.{◌≡◌, ltb};
 ghost use Rattle.law.specs.Entries.{entry_by, kind_at};
@@ -32,6 +32,7 @@ impl TryFrom<u32> for Method {
 
     ghost try_from_gives = { λ m r. r ≡ method_of m };
 
+    #[tactic(auto, unfolding(crate::specs::Methods::method_of))]
     fn try_from(m: u32) -> Result<Method, Unknown> {
         match m {
             0 => Ok(Method::ReportUsed),
@@ -111,6 +112,7 @@ fn doing(sets: u8, adds: u8, reads: u8) -> Masks
 
 // The masks of a method. An unknown method does nothing. What depends on the masks alone is computed by the compiler, which makes a
 // table of it.
+#[tactic(auto, using(crate::proofs::MethodLaws::masks_found))]
 pub(crate) fn masks_of(m: u32) -> Masks
     ensures { result ≡ masks_of m }
 {
