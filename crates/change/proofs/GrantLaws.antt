@@ -3,7 +3,7 @@
 use Prim.Native.Nat.{ℕ, ◌+◌, ◌^◌, ◌<◌}
 use mathlib.Core.Bool.{true, false}
 use mathlib.Core.List.{List}
-use mathlib.Core.Path.{◌≡◌, refl, sym, ap, ◌∙◌, subst}
+use mathlib.Core.Path.{◌≡◌, refl, sym, ◌∙◌, subst}
 use native.Mathlib.Omega.{arith}
 use borrow.Rule.Slice.PartMut.{put_mid}
 use lib.IntN.{ℤ, pos}
@@ -13,39 +13,31 @@ use Rattle.num.specs.Word.{put_word}
 use Rattle.law.specs.declared.Attr.{Attr}
 use Rattle.law.specs.declared.Claim.{Claim}
 use Rattle.law.specs.Lists.{never_true}
-use Rattle.law.specs.Types.{a0, a1, a2, Kind, sets, adds, reads, Figures, Disk as LawDisk}
+use Rattle.law.specs.Types.{a0, a1, a2, Kind, sets, adds, reads, Figures}
 use Rattle.law.specs.Entries.{kind_at, kind_of}
 use Rattle.law.specs.Granting.{limit_by, told_by, note_by, with_amount, put_told, total}
 use Rattle.law.specs.MayGrant.{MayGrant}
 use Rattle.law.specs.DiskType.{disk_table}
 use Rattle.rules.specs.Methods.{writes_by, write_mask, is_reading, sets_state}
 use Rattle.rules.specs.declared.disk.Disk.{Disk}
-use Rattle.rules.specs.Answers.{granted_of}
 use Rattle.rules.specs.Disks.{figures_in, core_in, disk_of, Good, DiskIs, grant_of}
 use Rattle.rules.proofs.EntryLaws.{each_kind}
 use Rattle.part.specs.Layout.{slots, head_words, decode, AttrFits}
-use Rattle.part.specs.Held.{part_for, HoldsDisk}
+use Rattle.part.specs.Held.{HoldsDisk}
 use Rattle.slots.specs.Slots.{Slots}
-use Rattle.change.specs.Holding.{Holds, NoteFits, numbered, with_figures, with_active, with_last, with_next, noted, raised_of}
-use Rattle.change.specs.HoldingLaws.{holds_decode, holds_disk, holds_part, active_slots, active_back, put_actives, put_figure}
+use Rattle.change.specs.Holding.{Holds, NoteFits, numbered, with_figures, with_active, with_last, noted, raised_of}
+use Rattle.change.specs.HoldingLaws.{holds_decode, holds_disk, active_slots, active_back, put_clock, put_next, put_actives, put_figure}
 use Rattle.change.proofs.ChangeLaws.{raised_good, grant_place, grant_reading, grant_write}
 
 -- ---- the clock and the next ticket
 
--- A disk at another second.
-abbrev pub clocked : Disk → ℕ → Disk
-clocked d second = numbered d second d.next d.actives d.waitings
+-- A disk at another second, with another next ticket.
+abbrev pub clocked : Disk → ℕ → ℕ → Disk
+clocked d second next = numbered d second next d.actives d.waitings
 
--- A grant at that second, with the next ticket: this is the part of the disk that the law leaves.
-pub new_part : (d : Disk) (second : ℕ) (c : Claim) {s : List ℕ} {e : Disk} → DiskIs e (grant_of (disk_of (clocked d second)) c) →
-    Holds s (with_next e (c.ticket + 1)) → s ≡ part_for (granted_of (disk_of d) second c)
-unfolding granted_of
-new_part d second c is h =
-    holds_part h
-    (record {
-      good = record { active = is.good.active; waiting = is.good.waiting };
-      is = ap (λ (e : LawDisk). record { core = e.core; waiting = e.waiting; next = c.ticket + 1 }) is.is;
-    })
+pub clocked_holds : {s : List ℕ} {d : Disk} → Holds s d → {r : List ℕ} {second next : ℕ} → r ≡ put_word (put_word s 0 second) 4 next →
+    second < 2 ^ 32 → next < 2 ^ 32 → Holds r (clocked d second next)
+clocked_holds h e l m = rw e (put_next (put_clock h l) m)
 
 -- ---- the noted total
 

@@ -81,10 +81,6 @@ with_waiting d n ws =
 abbrev pub with_last : Disk → ℕ → Claim → Disk
 with_last d n c = numbered (with_active d (set d.active n c)) d.clock d.next (n + 1) d.waitings
 
--- The disk with another next ticket.
-abbrev pub with_next : Disk → ℕ → Disk
-with_next d next = numbered d d.clock next d.actives d.waitings
-
 -- ---- what ends and what is granted
 
 -- The figures after the end of the active claim w.

@@ -26,6 +26,10 @@ use Rattle.change.specs.Holding.{Holds, with_figures, with_active, with_waiting,
 pub holds_decode : {s : List ℕ} {d : Disk} → Holds s d → decode s ≡ d
 holds_decode {s} {d} h = ap decode h.is ∙ decode_encode d h.fits
 
+-- So it holds the one that is read from it.
+pub holds_read : {s : List ℕ} {d : Disk} → Holds s d → Holds s (decode s)
+holds_read {s} {d} h = rw (holds_decode h) h
+
 -- A lent part that holds a disk holds the one that is read from it.
 pub disk_holds : {s : List ℕ} → HoldsDisk s → Bytes s → Holds s (decode s)
 disk_holds {s} h b = record { is = sym (encode_decode s b h.long h.whole); fits = decode_fits s b }

@@ -11,14 +11,14 @@ ghost use Rattle.rules.specs.Answers.{TakesGrant, granted_of};
 ghost use Rattle.rules.specs.Disks.{figures_in, core_in, disk_of, DiskIs, grant_of};
 ghost use Rattle.part.specs.Layout.{decode};
 ghost use Rattle.part.specs.Held.{held, part_for, HoldsDisk};
-ghost use Rattle.change.specs.Holding.{Holds, NoteFits, with_last, with_next, noted, raised_of};
+ghost use Rattle.change.specs.Holding.{Holds, NoteFits, with_last, noted, raised_of};
 
+use crate::moves::put_numbers;
 use law::Claim;
 use num::bits::share;
 use num::word::put_word;
 use part::layout::{
-    ACTIVE_AT, ACTIVES_AT, AMOUNT_IN, CLOCK_AT, NEXT_AT, PART_BYTES, PROMISED_AT, USED_AT,
-    WAITING_AT,
+    ACTIVE_AT, ACTIVES_AT, AMOUNT_IN, NEXT_AT, PART_BYTES, PROMISED_AT, USED_AT, WAITING_AT,
 };
 use part::read::{count_at, figures_at};
 use part::status::Status;
@@ -72,6 +72,7 @@ pub fn grant(s: &mut [u8; PART_BYTES], c: Claim, told: i32, total: u32)
     requires told_value { told ≡ told_by (figures_in (decode s.old)) (kind_of disk_table c) }
     requires total_value { total ≡ law_total disk_table (core_in (decode s.old)) c }
     ensures holds_disk_2 { HoldsDisk s.new }
+    ensures holds { Holds s.new (decode s.new) }
     ensures disk_is { DiskIs (decode s.new) (grant_of (disk_of (decode s.old)) c) }
 {
     if is_reading(c.method) {
@@ -83,14 +84,6 @@ pub fn grant(s: &mut [u8; PART_BYTES], c: Claim, told: i32, total: u32)
     put_last(s, c, 0, 0);
 }
 
-// Puts the next ticket on a part that holds a disk.
-fn put_next(s: &mut [u8; PART_BYTES], next: u32)
-    requires { HoldsDisk s.old }
-    ensures { Holds s.new (with_next (decode s.old) next) }
-{
-    put_word(s, NEXT_AT, next);
-}
-
 // Grants the claim c, which is new at that second.
 pub fn grant_new(s: &mut [u8; PART_BYTES], second: u32, c: Claim, told: i32, total: u32)
     requires holds_disk { HoldsDisk s.old }
@@ -98,7 +91,6 @@ pub fn grant_new(s: &mut [u8; PART_BYTES], second: u32, c: Claim, told: i32, tot
     requires told_value { told ≡ told_by (figures_in (decode s.old)) (kind_of disk_table c) }
     ensures { s.new ≡ part_for (granted_of (held s.old) second c) }
 {
-    put_word(s, CLOCK_AT, second);
+    put_numbers(s, second, NEXT_AT, c.ticket + 1);
     grant(s, c, told, total);
-    put_next(s, c.ticket + 1);
 }

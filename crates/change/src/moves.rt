@@ -56,8 +56,8 @@ fn land(s: &mut [u8; PART_BYTES], w: Claim)
     }
 }
 
-// Puts the second of a call as the clock, and a count into the head.
-fn put_numbers(s: &mut [u8; PART_BYTES], second: u32, at: usize, n: u32)
+// Puts the second of a call as the clock, and another number into the head: a count, or the next ticket.
+pub(crate) fn put_numbers(s: &mut [u8; PART_BYTES], second: u32, at: usize, n: u32)
     requires { at ≤ 12 }
     ensures { s.new ≡ put_word (put_word s.old 0 second) at n }
 {

@@ -63,13 +63,16 @@ fn serve_claim(
     ensures { Ends result part.new answer.new (settled part.old (law_claim disk_table (held part.old) (request_of second c))) }
 {
     let a = judged(part, c, second, t);
+    if let Answer::Refused(r) = a {
+        return Err(r);
+    }
+    let code = put_answer(answer, a);
     match a {
         Answer::Granted(_, told, amount) => grant_new(part, second, c, told, amount),
         Answer::Waits(_) => wait(part, second, c),
-        Answer::Refused(r) => return Err(r),
-        Answer::Released(_) | Answer::Opened => unreachable!(),
+        Answer::Released(_) | Answer::Opened | Answer::Refused(_) => unreachable!(),
     }
-    Ok(put_answer(answer, a))
+    Ok(code)
 }
 
 // A release on a sound part.

@@ -17,6 +17,7 @@ pub(crate) fn record_of(row: Row) -> Option<[u8; 24]>
             Some(laid_out(u8::from(Kind::Open), DISK, 0, 0, 0, words))
         }
         Row::Claim(disk, now, method, priority, flag, measured, value, error) => {
+            let disk = u8::from(disk);
             let words = [now, measured, to_word(value), error];
             Some(laid_out(u8::from(Kind::Claim), disk, method, priority, flag, words))
         }

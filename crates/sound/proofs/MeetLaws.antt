@@ -29,6 +29,24 @@ pub sum_more : (t : Totals) (c : Claim) → (with_claim t c).sum ≡ t.sum + add
 unfolding with_claim
 sum_more t c = refl
 
+-- A turn of the walk, with the claim x.
+module _ (t : Totals) {u : Totals} {xs rest : List Claim} {x : Claim} (e : xs ≡ x ∷ rest) (w : u ≡ with_claim t x) where
+  pub sum_on : u.sum ≡ t.sum + add_of x
+  unfolding with_claim
+  sum_on = ap (λ (v : Totals). v.sum) w
+
+  pub totals_on : totals_from u rest ≡ totals_from t xs
+  unfolding totals_from
+  totals_on = rw (e, w)
+
+  pub meet_on : keep_out t x.method ≡ false → meet_from u rest ≡ meet_from t xs
+  unfolding meet_from
+  meet_on h = rw (e, w, h)
+
+pub meet_not : (t : Totals) {xs rest : List Claim} {x : Claim} → xs ≡ x ∷ rest → keep_out t x.method ≡ true → meet_from t xs ≡ false
+unfolding meet_from
+meet_not t e h = rw (e, h)
+
 -- No claim of vs has entry N with c.
 abbrev let_in : List Claim → Claim → Bool
 let_in vs c = not (any_of (never c) vs)

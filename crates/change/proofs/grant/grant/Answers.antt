@@ -2,7 +2,7 @@
 use Rattle.std.proofs.Common.{to_z-of_z}
 use Rattle.part.specs.Layout.{decode}
 use Rattle.part.specs.PartLaws.{disk_good}
-use Rattle.change.specs.HoldingLaws.{disk_holds, holds_disk}
+use Rattle.change.specs.HoldingLaws.{disk_holds, holds_disk, holds_read}
 use Rattle.change.proofs.ChangeLaws.{grant_place, raised_good}
 use Rattle.change.proofs.GrantLaws.{note_fits, noted_disk, noted_place, read_grants, write_grants}
 use Rattle.change.proofs.grant.grant.Goals as goal
@@ -19,7 +19,7 @@ returns-then-is_reading c =
     let g =
     read_grants (decode c.args.s.now) c.args.c (disk_good z.holds_disk) z.may_grant (cc)
     z.told_value z.total_value (rw (to_z-of_z c.ranges.told) at c.put_last.ensures) in
-    record { holds_disk_2 = g.0; disk_is = g.1 }
+    record { holds_disk_2 = g.0; holds = holds_read c.put_last.ensures; disk_is = g.1 }
 
 -- With the active claims raised, and with the total noted, the part holds a disk again.
 pub note-requires : goal.note-requires
@@ -48,4 +48,4 @@ returns c =
     let g =
     write_grants (decode c.args.s.now) c.args.c (disk_good z.holds_disk) z.may_grant c.args.total c.raise_on.ensures c.note.ensures (cc)
     z.total_value c.put_last-2.ensures in
-    record { holds_disk_2 = g.0; disk_is = g.1 }
+    record { holds_disk_2 = g.0; holds = holds_read c.put_last-2.ensures; disk_is = g.1 }
